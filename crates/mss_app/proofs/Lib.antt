@@ -1,0 +1,4 @@
+pub mod Answered
+pub mod Defined
+pub mod Delivered
+pub mod Promised

@@ -1,0 +1,13 @@
+pub mod Convolution
+pub mod ListsAsFunctions
+pub mod JointSums
+pub mod CumulativeWeights
+pub mod LeastNumber
+pub mod StochasticOrder
+pub mod Moments
+pub mod RangeSums
+pub mod RangeParts
+pub mod TwiceThinned
+pub mod ThinnedLists
+pub mod OffsetAges
+pub mod Largest

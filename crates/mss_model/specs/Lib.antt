@@ -1,0 +1,17 @@
+pub mod Sums
+pub mod Presence
+pub mod Thinning
+pub mod BlockAtAge
+pub mod Distribution
+pub mod Percentile
+pub mod TableWords
+pub mod Occurrences
+pub mod Census
+pub mod Movements
+pub mod Peak
+pub mod Legality
+pub mod NameRule
+pub mod Limits
+pub mod PartsOf
+pub mod Examples
+pub mod CycleExamples

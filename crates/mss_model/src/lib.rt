@@ -1,0 +1,30 @@
+//! The types of the planner and the exact workload model.
+//!
+//! Contracts of all crates cite the definitions in `specs/`, which docs/MODEL.md tells in words. A type with private
+//! fields is seen by callers as a plain list or record.
+#![tactic(auto)]
+
+mod block_list;
+mod faults;
+mod growing;
+mod limits;
+mod name_rule;
+mod no_memory;
+mod one_block;
+mod one_cycle;
+mod parts;
+mod table_set;
+
+pub use block_list::Blocks;
+pub use faults::{Kind, TableFault};
+pub use growing::{MOST_MEMBERS, Names, Numbers, Text};
+pub use limits::{
+    MOST_BUDGET, MOST_DAILY, MOST_DAYS, MOST_KINDS, MOST_LEVEL, MOST_LISTED, MOST_MINUTES,
+    MOST_ROOMS, MOST_SPECIALTIES, MOST_TARGET, MOST_UNITS, MOST_WARDS,
+};
+pub use name_rule::is_name;
+pub use no_memory::NoMemory;
+pub use one_block::{Block, MOST_AGES, MOST_PATIENTS, PARTS};
+pub use one_cycle::Cycle;
+pub use parts::TableParts;
+pub use table_set::Tables;

@@ -1,0 +1,64 @@
+//! The rule for names of rooms, wards, specialties and equipment.
+ghost use Rattle.std.specs.Prelude.{◌≡◌, ◌↔◌, IsTrue, true};
+ghost use Rattle.std.specs.List.{list_all};
+ghost use Rattle.std.specs.Str.{is_utf8};
+ghost use Rattle.mss_model.specs.NameRule.{is_name_text, is_printed_byte};
+
+use std::str;
+
+/// Whether these bytes may be a name: 1 to 60 bytes of UTF-8 without control characters, and not `-` alone, which means
+/// an idle slot.
+pub fn is_name(bytes: &[u8]) -> bool
+    ensures { result ≡ is_name_text bytes.now }
+{
+    match bytes {
+        [] | [b'-'] => false,
+        _ => bytes.len() <= 60 && is_text(bytes) && is_printed(bytes),
+    }
+}
+
+/// Whether these bytes are UTF-8.
+fn is_text(bytes: &[u8]) -> bool
+    ensures { result ≡ is_utf8 bytes.now }
+{
+    str::from_utf8(bytes).is_ok()
+}
+
+/// Whether none of these bytes is a control character.
+fn is_printed(bytes: &[u8]) -> bool
+    ensures { result ≡ list_all is_printed_byte bytes.now }
+{
+    for byte in bytes {
+        if *byte < 32 || *byte == 127 {
+            return false;
+        }
+    }
+    true
+}
+
+#[cfg(test)]
+mod tests {
+    use super::is_name;
+
+    #[test]
+    fn names_by_the_rule(rt: HostRuntime) {
+        let cases: &[(&[u8], bool)] = &[
+            (b"A", true),
+            (b"Orthop\xc3\xa4die", true),
+            (b" ", true),
+            (b"a,\"b\"", true),
+            (b"--", true),
+            (&[b'x'; 60], true),
+            (b"", false),
+            (b"-", false),
+            (&[b'x'; 61], false),
+            (b"a\tb", false),
+            (b"a\x1f", false),
+            (b"a\x7f", false),
+            (b"Orthop\xe4die", false),
+        ];
+        for (bytes, expected) in cases {
+            assert_eq!(rt; is_name(bytes), *expected);
+        }
+    }
+}

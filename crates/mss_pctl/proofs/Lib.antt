@@ -1,0 +1,7 @@
+pub mod Lines
+pub mod Rounding
+pub mod DayHolds
+pub mod PeakSteps
+pub mod PeakPlaces
+pub mod PeakSides
+pub mod CensusStands

@@ -1,0 +1,14 @@
+//! The texts that the commands print, byte for byte.
+//!
+//! Each text is a list of lines, and each line of numbers holds of the exact model: the definitions in `specs/` say
+//! which numbers a line prints and what they promise. docs/FORMATS.md has the texts in words.
+#![tactic(auto)]
+
+mod block;
+mod evaluation;
+mod fault;
+mod pieces;
+
+pub use block::block_text;
+pub use evaluation::evaluate_text;
+pub use fault::table_fault_text;

@@ -1,0 +1,5 @@
+pub mod UnreadFacts
+mod Digits
+mod RecordFacts
+mod FirstFacts
+mod FirstRecordFacts

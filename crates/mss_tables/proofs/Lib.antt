@@ -1,0 +1,16 @@
+mod ChanceFacts
+mod BlockFacts
+mod ListFacts
+mod PatientsFacts
+mod StaysFacts
+mod SpecialtyBlocks
+mod Places
+mod CellFacts
+mod NeedFacts
+mod RowFacts
+mod NamesGrow
+mod RoomFacts
+mod FaultFacts
+mod SpecialtyFacts
+mod WatchFacts
+mod CycleFacts

@@ -1,0 +1,29 @@
+//! The tables and the cycle, read from their files.
+//!
+//! Contracts see a file as the list of its records. What accepted files mean, and the first fault of files that aren't
+//! accepted, are defined in `specs/` by look-up among all records.
+#![tactic(auto)]
+
+mod barred;
+mod block_file;
+mod blocks;
+mod cells;
+mod chances;
+mod cycle_file;
+mod equipment;
+mod files;
+mod needs;
+mod numbering;
+mod options;
+mod patients;
+mod refusal;
+mod rooms;
+mod specialties;
+mod stays;
+mod unsuited;
+mod watch;
+
+pub use block_file::read_block;
+pub use cycle_file::{CycleFault, CycleRefusal, read_cycle};
+pub use files::TableFiles;
+pub use refusal::TableRefusal;

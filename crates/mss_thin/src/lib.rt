@@ -1,0 +1,16 @@
+//! Binomial thinning of kept lists, and the kept lists of one block: age by age, and summed by the days of a cycle.
+//!
+//! docs/MODEL.md tells the rules in words.
+#![tactic(auto)]
+
+mod ages;
+mod offsets;
+mod thin_row;
+mod thinning;
+
+pub use ages::block_days;
+pub use offsets::steady;
+pub use thin_row::ThinRow;
+
+#[cfg(test)]
+mod tests;
