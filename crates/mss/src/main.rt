@@ -4,6 +4,7 @@
 
 use mss_app::{Status, run};
 use mss_desk::FolderDesk;
+use mss_enclose::Plain;
 use std::env;
 use std::io::ErrorKind;
 use std::process::ExitCode;
@@ -28,6 +29,6 @@ fn main(rt: HostRuntime) -> ExitCode {
         Err(_) => return ExitCode::from(NO_WORDS),
     }
     let mut desk = FolderDesk::make(rt);
-    let status = run(alloc, words.as_slice(), &mut desk);
+    let status = run(alloc, words.as_slice(), &mut desk, &Plain);
     ExitCode::from(status.number())
 }

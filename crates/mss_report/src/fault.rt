@@ -1,6 +1,6 @@
-//! The texts of refusals: the file, the record, the item and the kind of a fault.
+//! The texts of refusals: where the first fault of the tables or of a cycle lies, and its kind.
 ghost use Rattle.std.specs.Prelude.{◌≡◌, ◌++◌, ◌≤◌, IfOk};
-ghost use Rattle.mss_report.specs.Faults.{file_name, kind_number, kind_name, kind_text, fault_text_of};
+ghost use Rattle.mss_report.specs.Faults.{file_name, kind_number, kind_name, kind_text, fault_text_of, cycle_fault_text_of};
 
 use crate::pieces::push_named;
 use mss_model::{Kind, NoMemory, TableFault, Text};
@@ -18,6 +18,18 @@ pub fn table_fault_text(alloc: Global, fault: &TableFault) -> Result<Text, NoMem
     push_named(alloc, &mut text, b" record ", fault.row)?;
     push_named(alloc, &mut text, b" item ", fault.item)?;
     push_kind(alloc, &mut text, fault.kind)?;
+    Ok(text)
+}
+
+/// The refusal of a cycle: `cycle refused: record ROW kind NUMBER NAME` and a line feed. The records count from 1 after
+/// the header, which is record 0.
+#[tactic(auto, unfolding(crate::specs::Faults::cycle_fault_text_of))]
+pub fn cycle_fault_text(alloc: Global, row: u32, kind: Kind) -> Result<Text, NoMemory>
+    ensures { IfOk result (λ text. text ≡ cycle_fault_text_of row kind) }
+{
+    let mut text = Text::make(alloc);
+    push_named(alloc, &mut text, b"cycle refused: record ", row)?;
+    push_kind(alloc, &mut text, kind)?;
     Ok(text)
 }
 

@@ -11,4 +11,4 @@ mod pieces;
 
 pub use block::block_text;
 pub use evaluation::evaluate_text;
-pub use fault::table_fault_text;
+pub use fault::{cycle_fault_text, table_fault_text};

@@ -11,6 +11,10 @@ mod RowFacts
 mod NamesGrow
 mod RoomFacts
 mod FaultFacts
+mod FaultFiles
 mod SpecialtyFacts
 mod WatchFacts
 mod CycleFacts
+mod FirstOfFiles
+mod PartsFacts
+mod TablesFacts

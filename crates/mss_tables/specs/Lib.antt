@@ -21,3 +21,4 @@ pub mod Watch
 pub mod Watching
 pub mod CycleFile
 pub mod TablesMeaning
+pub mod PartsRead
