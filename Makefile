@@ -13,6 +13,7 @@ build:
 
 example: build
 	@for folder in block joint_replacement; do echo "== examples/$$folder: mss block"; (cd examples/$$folder && ../../bin/mss block) || exit 1; done
+	@echo "== examples/hospital: mss evaluate"; cd examples/hospital && ../../bin/mss evaluate
 
 # The gate: every proof from nothing, the must-fail edits, the tests and the stored run.
 test:

@@ -1,5 +1,5 @@
 -- The kept list of a census stands for it, lacks little and isn't too long.
-use Rattle.std.proofs.Common.{◌≡◌, ◌+◌, ◌-◌, ◌*◌, ◌^◌, ◌<◌, ◌≤◌, ℕ, List, length, sym, ap, ◌∙◌, arith, mul-le-mul}
+use Rattle.std.proofs.Common.{◌≡◌, ◌-◌, ◌*◌, ◌^◌, ◌<◌, ◌≤◌, ℕ, List, length, ap, ◌∙◌, arith, mul-le-mul}
 use Rattle.mss_model.specs.declared.parts.TableParts.{TableParts}
 use Rattle.mss_model.specs.Limits.{IsTables}
 use Rattle.mss_model.specs.TableWords.{slot_count}

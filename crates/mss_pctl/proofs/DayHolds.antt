@@ -1,6 +1,6 @@
 -- Each line of a day holds of every distribution that its kept list stands for.
-use Rattle.std.proofs.Common.{◌≡◌, ◌+◌, ◌-◌, ◌*◌, ◌^◌, ◌<◌, ◌≤◌, ℕ, List, [], ◌∷◌, length, get_or, map, sum, refl}
-use Rattle.std.specs.List.{All, range_with_len}
+use Rattle.std.proofs.Common.{◌≡◌, ◌+◌, ◌-◌, ◌^◌, ◌≤◌, ℕ, List, get_or, map, sum, refl}
+use Rattle.std.specs.List.{All}
 use Rattle.std.proofs.lemmas.List.Elements.{All-append, All-map}
 use Rattle.mss_model.specs.Percentile.{cumulative}
 use Rattle.mss_enclose.specs.Kept.{rest_of, StandsFor, masses_low, masses_high}

@@ -1,5 +1,5 @@
 -- The peak over kept lists encloses the peak of the census.
-use Rattle.std.proofs.Common.{◌≡◌, ◌+◌, ◌-◌, ◌*◌, ◌^◌, ◌<◌, ◌≤◌, max, ℕ, zero, suc, Bool, true, false, List, [], ◌∷◌, ◌++◌, map, ap, refl, sym, ◌∙◌, arith}
+use Rattle.std.proofs.Common.{◌≡◌, ◌+◌, ◌-◌, ◌*◌, ◌^◌, ◌<◌, ◌≤◌, max, ℕ, zero, suc, Bool, true, false, List, [], ◌∷◌, ◌++◌, map, ap, refl, ◌∙◌, arith}
 use Rattle.std.specs.Prelude.{flat_map, if◌then◌else◌}
 use Rattle.std.specs.List.{range_with_len}
 use Rattle.std.proofs.lemmas.List.{map-append}
@@ -7,7 +7,7 @@ use Rattle.mss_model.specs.declared.parts.TableParts.{TableParts}
 use Rattle.mss_model.specs.TableWords.{ward_count, is_watched}
 use Rattle.mss_model.specs.Percentile.{percentile}
 use Rattle.mss_model.specs.Census.{census}
-use Rattle.mss_model.specs.Peak.{largest_below, peak}
+use Rattle.mss_model.specs.Peak.{largest_below}
 use Rattle.mss_model.proofs.Largest.{largest-le}
 use Rattle.mss_enclose.specs.Kept.{rest_of, StandsFor, masses_low, masses_high}
 use Rattle.mss_pctl.specs.declared.peak.Peak.{Peak}

@@ -1,4 +1,4 @@
-//! Percentile pairs, the peak of a cycle, and the lines of one day.
+//! Percentile pairs, the peak of a cycle, the lines of one day, and the pieces of which all lines are made.
 //!
 //! Each number comes from a kept list, and encloses or bounds what every distribution has that the list stands for.
 #![tactic(auto)]
@@ -13,3 +13,4 @@ pub use cycle_peak::peak_pair;
 pub use day::day_lines;
 pub use peak::Peak;
 pub use percentile_pair::pair;
+pub use pieces::{push_interval, push_named};

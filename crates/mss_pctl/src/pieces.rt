@@ -6,14 +6,9 @@ use mss_enclose::decimal_text;
 use mss_model::{NoMemory, Text};
 use std::alloc::Global;
 
-/// Adds words, and then a number in decimal.
+/// Adds words to a text, and then a number in decimal.
 #[tactic(auto, unfolding(crate::specs::Printed::named_text))]
-pub(crate) fn push_named(
-    alloc: Global,
-    text: &mut Text,
-    words: &[u8],
-    number: u32,
-) -> Result<(), NoMemory>
+pub fn push_named(alloc: Global, text: &mut Text, words: &[u8], number: u32) -> Result<(), NoMemory>
     ensures { IfOk result (λ _. text.new ≡ text.old ++ named_text words.now number) }
 {
     text.push(words)?;
@@ -21,14 +16,9 @@ pub(crate) fn push_named(
     text.push(digits.as_bytes())
 }
 
-/// Adds two numbers as decimals with 12 places, each after a space.
+/// Adds two numbers of parts of 10^12 to a text as decimals with 12 places, each after a space.
 #[tactic(auto, unfolding(crate::specs::Printed::interval_text))]
-pub(crate) fn push_interval(
-    alloc: Global,
-    text: &mut Text,
-    low: u64,
-    high: u64,
-) -> Result<(), NoMemory>
+pub fn push_interval(alloc: Global, text: &mut Text, low: u64, high: u64) -> Result<(), NoMemory>
     ensures { IfOk result (λ _. text.new ≡ text.old ++ interval_text 12 low high) }
 {
     text.push(b" ")?;

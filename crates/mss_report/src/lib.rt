@@ -7,7 +7,6 @@
 mod block;
 mod evaluation;
 mod fault;
-mod pieces;
 
 pub use block::block_text;
 pub use evaluation::evaluate_text;

@@ -1,4 +1,4 @@
-use Rattle.std.proofs.Common.{◌≡◌, ◌++◌, ◌∙◌, [], map, ap, sym}
+use Rattle.std.proofs.Common.{◌∙◌, map, sym}
 use Rattle.std.proofs.lemmas.Grind.{flat_map-append}
 use Rattle.mss_enclose.specs.Words.{masses_list}
 use Rattle.mss_pctl.specs.DayLines.{day_line_text, pair_line, points_of}

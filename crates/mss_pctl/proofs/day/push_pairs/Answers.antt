@@ -1,4 +1,4 @@
-use Rattle.std.proofs.Common.{◌≡◌, ◌++◌, ◌∙◌, get_or, refl, ap, append_assoc, arith}
+use Rattle.std.proofs.Common.{◌≡◌, ◌∙◌, get_or, refl, arith}
 use Rattle.mss_enclose.specs.Words.{masses_list}
 use Rattle.mss_enclose.specs.Kept.{masses_low, masses_high}
 use Rattle.mss_pctl.specs.DayLines.{day_line_text, pair_line, pair_text, line_start}

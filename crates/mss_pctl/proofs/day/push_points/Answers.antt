@@ -1,8 +1,8 @@
-use Rattle.std.proofs.Common.{◌≡◌, ◌+◌, ◌<◌, ◌≤◌, ◌++◌, ◌∙◌, ℕ, List, length, get_or, sum, take, refl, ap, sym, arith, lit≤}
+use Rattle.std.proofs.Common.{◌≡◌, ◌+◌, ◌<◌, ◌∙◌, ℕ, List, length, get_or, refl, arith, lit≤}
 use Rattle.std.proofs.lemmas.List.Sums.{sum_by_more}
 use Rattle.mss_model.specs.Percentile.{cumulative}
 use Rattle.mss_enclose.specs.Words.{masses_list}
-use Rattle.mss_enclose.specs.Kept.{rest_of, masses_low}
+use Rattle.mss_enclose.specs.Kept.{rest_of}
 use Rattle.mss_enclose.specs.Decimals.{down_of, up_of}
 use Rattle.mss_enclose.specs.NumberLaws.{masses_low-inside}
 use Rattle.mss_pctl.specs.DayLines.{day_line_text, point_line, point_text, line_start}
