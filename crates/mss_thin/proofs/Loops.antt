@@ -1,6 +1,7 @@
 -- What the loops over a kept list keep.
-use Rattle.std.proofs.Common.{◌≡◌, ℕ, ◌+◌, ◌-◌, ◌*◌, ◌/◌, ◌<◌, ◌≤◌, List, [], ◌∷◌, ◌++◌, length, get_or, take, map, sum, refl, sym, ap, subst, ◌∙◌, arith, add-one, inl, inr}
-use Rattle.std.specs.List.{range_with_len}
+use Rattle.std.proofs.Common.{◌≡◌, ℕ, ◌+◌, ◌-◌, ◌*◌, ◌/◌, ◌<◌, ◌≤◌, List, [], ◌∷◌, ◌++◌, length, get_or, take, map, sum, Some, refl, sym, ap, subst, ◌∙◌, arith, add-one, inl, inr}
+use Rattle.std.specs.List.{range_with_len, slice_get}
+use Rattle.std.proofs.lemmas.Option.{get_or_from_slice_get, slice_get_within}
 use Rattle.std.proofs.lemmas.Bool.{cases_lt}
 use Rattle.std.proofs.lemmas.List.{get_or_default, get_or_past}
 use Rattle.std.proofs.lemmas.List.Sums.{sum_by_more}
@@ -12,7 +13,7 @@ use Rattle.mss_model.proofs.RangeSums.{sum_below_ext}
 use Rattle.mss_enclose.specs.Unit.{unit}
 use Rattle.mss_thin.specs.ThinRows.{row, row_weight, thinned_number, thinned}
 use Rattle.mss_thin.specs.BlockLists.{kept_at_age}
-use Rattle.mss_thin.proofs.RowLists.{row_at, row_small}
+use Rattle.mss_thin.proofs.RowLists.{row_at, row_length, row_small}
 use Rattle.mss_thin.proofs.BlockAges.{age-length, age-fits}
 
 -- ---- the sum over the counts before
@@ -52,6 +53,23 @@ rows_small parts p n k x rows e pos h = elim (cases_lt k n) [
 pub rows_more : (f : ℕ → List ℕ) (n : ℕ) (rows : List (List ℕ)) (r : List ℕ) → rows ≡ map f (range_with_len 0 n) → r ≡ f n →
     rows ++ r ∷ [] ≡ map f (range_with_len 0 (n + 1))
 rows_more f n rows r e h = rw (e, h) (sym (map-range_with_len_more f 0 n n (omega arith)))
+
+-- the rows of the counts below n, by how many they are
+pub rows_by_length : (parts p n : ℕ) (rows : List (List ℕ)) → rows ≡ map (row parts p) (range_with_len 0 n) →
+    (length rows ≡ n) × (rows ≡ map (row parts p) (range_with_len 0 (length rows)))
+rows_by_length parts p n rows e =
+    let len : length rows ≡ n = ap length e ∙ length-map-range_with_len (row parts p) 0 n in
+    (len, e ∙ ap (λ k. map (row parts p) (range_with_len 0 k)) (sym len))
+
+-- the last of some rows is that of one patient fewer than they are
+pub last_row : (parts p : ℕ) (rows : List (List ℕ)) (r : List ℕ) → rows ≡ map (row parts p) (range_with_len 0 (length rows)) →
+    slice_get rows (length rows - 1) ≡ Some r → (r ≡ row parts p (length rows - 1)) × (length r ≡ length rows)
+last_row parts p rows r e at =
+    let inside : length rows - 1 < length rows = slice_get_within rows (length rows - 1) r at in
+    let last : r ≡ row parts p (length rows - 1)
+    = sym (get_or_from_slice_get rows (length rows - 1) r [] at) ∙ ap (λ rs. get_or rs (length rows - 1) []) e
+    ∙ get_or-map-range_with_len (row parts p) 0 (length rows) (length rows - 1) (length rows - 1) [] inside (omega arith) in
+    (last, omega (arith, row_length parts p (length rows - 1) r last))
 
 -- one number more of the thinned list
 pub later_more : (parts p : ℕ) (kept later : List ℕ) (rows : List (List ℕ)) (i w : ℕ) →
