@@ -1,4 +1,4 @@
-# The program is proved while it is built, so a first build takes some minutes (README.md, "Build").
+# The program is proved while it is built, so a first build takes long (README.md, "Use").
 .PHONY: build example test bench clean
 
 PROGRAM := crates/mss/out/mss
@@ -14,6 +14,7 @@ build:
 example: build
 	@for folder in block joint_replacement; do echo "== examples/$$folder: mss block"; (cd examples/$$folder && ../../bin/mss block) || exit 1; done
 	@echo "== examples/hospital: mss evaluate"; cd examples/hospital && ../../bin/mss evaluate
+	@echo "== examples/two_theatres: mss check"; cd examples/two_theatres && ../../bin/mss check
 
 # The gate: every proof from nothing, the must-fail edits, the tests and the stored run.
 test:

@@ -135,35 +135,3 @@ impl<R: Files + Print + Drop> Desk for FolderDesk<R> {
         answer
     }
 }
-
-#[cfg(test)]
-mod tests {
-    use super::*;
-    use std::fs;
-
-    #[test]
-    fn works_on_real_files(rt: HostRuntime) {
-        let alloc = rt.alloc();
-        let mut desk = FolderDesk::make(rt);
-        let name = "folder-desk.test";
-        assert_eq!(rt; desk.put(name, b"eight by"), WriteAnswer::Done);
-        for (limit, answer, length) in [
-            (7, ReadAnswer::More, 8),
-            (8, ReadAnswer::Done, 8),
-            (usize::MAX, ReadAnswer::Done, 8),
-            (0, ReadAnswer::More, 1),
-        ] {
-            let mut out = Vec::new(alloc);
-            assert_eq!(rt; desk.read(name, limit, &mut out), answer, "at {limit}");
-            assert_eq!(rt; out.len(), length, "at {limit}");
-        }
-        assert_eq!(rt; desk.put(name, b""), WriteAnswer::Done);
-        let mut out = Vec::new(alloc);
-        assert_eq!(rt; desk.read(name, 0, &mut out), ReadAnswer::Done);
-        assert!(rt; fs::remove_file(&rt, name).is_ok());
-        assert_eq!(rt; desk.read(name, 8, &mut out), ReadAnswer::Failed);
-        assert_eq!(rt; desk.put("no such folder/file", b"a"), WriteAnswer::Failed);
-        assert_eq!(rt; desk.say(b""), WriteAnswer::Done);
-        assert_eq!(rt; (desk.read_faults, desk.write_faults), (1, 1));
-    }
-}

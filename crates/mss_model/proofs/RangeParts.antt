@@ -1,5 +1,5 @@
 -- Sums over a range of numbers that is longer, cut in two, or cut in rows.
-use Rattle.std.proofs.Common.{◌≡◌, ℕ, zero, suc, ◌+◌, ◌*◌, ◌/◌, ◌<◌, ◌≤◌, refl, ap, arith, inl, inr, add-zero, add-suc, mul_comm, mul-le-mul_left, le_refl}
+use Rattle.std.proofs.Common.{◌≡◌, ℕ, zero, suc, ◌+◌, ◌*◌, ◌/◌, ◌<◌, ◌≤◌, ap, arith, inl, inr, add-zero, add-suc, mul_comm, mul-le-mul_left, le_refl}
 use Rattle.std.proofs.lemmas.Bool.{cases_lt}
 use Rattle.mss_model.specs.Sums.{sum_below}
 

@@ -1,9 +1,9 @@
 -- The stochastic order of distributions: kept by sums, and percentiles follow it.
-use Rattle.std.proofs.Common.{◌≡◌, ℕ, ◌+◌, ◌*◌, ◌≤◌, ◌<◌, zero, suc, refl, ◌∙◌, arith, List, [], ◌∷◌, length, sum, mul-pos, mul-le-mul_left, mul-le-mul_right, le_of_mul-le-mul_right, le_refl, Bool, true, false, cond, nat_le, le-leb, leb-true}
+use Rattle.std.proofs.Common.{ℕ, ◌*◌, ◌≤◌, ◌<◌, zero, suc, ◌∙◌, arith, List, length, sum, mul-pos, mul-le-mul_left, mul-le-mul_right, le_of_mul-le-mul_right, le_refl, nat_le, le-leb, leb-true}
 use Rattle.mss_model.specs.Distribution.{joint}
-use Rattle.mss_model.specs.Percentile.{cumulative, least, percentile}
-use Rattle.mss_model.proofs.Convolution.{conv, one, conv-change, conv-exchange, conv_assoc}
-use Rattle.mss_model.proofs.ListsAsFunctions.{at, cumulative-nil, cumulative-cons, cumulative-conv, sum-joint, length-joint}
+use Rattle.mss_model.specs.Percentile.{cumulative, percentile}
+use Rattle.mss_model.proofs.Convolution.{conv, one, conv-change, conv-exchange}
+use Rattle.mss_model.proofs.ListsAsFunctions.{at, cumulative-conv, sum-joint}
 use Rattle.mss_model.proofs.JointSums.{nonempty}
 use Rattle.mss_model.proofs.LeastNumber.{least-le-longer}
 use Rattle.mss_model.proofs.CumulativeWeights.{cumulative-joint, conv-cumulative, sum-fits, cumulative-le-cumulative}

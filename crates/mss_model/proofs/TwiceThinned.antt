@@ -2,7 +2,7 @@
 --
 -- Weights are functions of the count here, and a sum over counts recurs on the greatest one, so that no power of
 -- the denominator has to be divided out.
-use Rattle.std.proofs.Common.{◌≡◌, ℕ, zero, suc, ◌+◌, ◌-◌, ◌*◌, ◌^◌, ◌<◌, ◌≤◌, refl, sym, ap, ◌∙◌, arith}
+use Rattle.std.proofs.Common.{◌≡◌, ℕ, zero, suc, ◌+◌, ◌*◌, ◌<◌, refl, arith}
 
 -- the weights f, and one patient more: present with weight p, absent with weight q
 abbrev pub one_more : ℕ → ℕ → (ℕ → ℕ) → ℕ → ℕ

@@ -1,8 +1,8 @@
 -- Worked examples of whole cycles, each proved by computing.
-use Rattle.std.specs.Prelude.{◌≡◌, ℕ, List, [], ◌∷◌, map, Option, Some, None, codes, refl, replicate}
+use Rattle.std.specs.Prelude.{◌≡◌, ℕ, List, [], ◌∷◌, map, Some, None, codes, refl, replicate}
 use Rattle.mss_model.specs.declared.parts.TableParts.{TableParts}
 use Rattle.mss_model.specs.BlockAtAge.{BlockView}
-use Rattle.mss_model.specs.Occurrences.{Occurrence, occurrences}
+use Rattle.mss_model.specs.Occurrences.{occurrences}
 use Rattle.mss_model.specs.Census.{census}
 use Rattle.mss_model.specs.Movements.{admissions, discharges}
 use Rattle.mss_model.specs.Percentile.{percentile}

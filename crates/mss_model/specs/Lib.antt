@@ -11,6 +11,8 @@ pub mod Movements
 pub mod Peak
 pub mod Legality
 pub mod NameRule
+pub mod Files
+pub mod Faults
 pub mod Limits
 pub mod PartsOf
 pub mod Examples

@@ -7,7 +7,7 @@ use Rattle.mss_model.specs.Presence.{presence}
 use Rattle.mss_model.specs.Thinning.{thinned_by}
 use Rattle.mss_model.specs.BlockAtAge.{BlockView}
 use Rattle.mss_model.specs.Distribution.{joint_all}
-use Rattle.mss_model.specs.Occurrences.{Occurrence, occurrences}
+use Rattle.mss_model.specs.Occurrences.{occurrences}
 use Rattle.mss_model.specs.Census.{those_present}
 
 -- The distribution of the admissions to a ward on a day: of its occurrences on the day of surgery.

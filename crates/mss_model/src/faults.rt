@@ -1,3 +1,6 @@
+//! The faults of the files that the planner reads: their kinds, and where they lie.
+ghost use Rattle.std.specs.Prelude.{◌≡◌, ◌<◌};
+
 /// The kinds of fault in the files that the planner reads, numbered from 1 in this order (docs/FORMATS.md, "Faults").
 #[derive(Clone, Copy, Debug, PartialEq, Eq)]
 pub enum Kind {
@@ -45,14 +48,65 @@ pub enum Kind {
     Word,
 }
 
-/// A fault with its place.
+/// The names of the kinds of fault, in their order (docs/FORMATS.md, "Faults").
+pub const KIND_NAMES: [&str; 21] = [
+    "TooLong",
+    "Toml",
+    "Key",
+    "Version",
+    "Range",
+    "Level",
+    "Watch",
+    "Header",
+    "Columns",
+    "Number",
+    "Name",
+    "TooMany",
+    "Unknown",
+    "Twice",
+    "HoursOrder",
+    "ChanceSum",
+    "StayEnd",
+    "StayAfterEnd",
+    "StayOrder",
+    "NoRecord",
+    "Word",
+];
+
+impl Kind {
+    ghost use Rattle.mss_model.specs.Faults.{kind_name, kind_number};
+
+    /// The number of the kind, from 1 to 21.
+    pub fn number(&self) -> u8
+        ensures { result ≡ kind_number self.now }
+    {
+        *self as u8 + 1
+    }
+
+    /// The name of the kind, as refusals have it.
+    pub fn name(&self) -> &'static str
+        ensures { result.now ≡ kind_name self.now }
+    {
+        KIND_NAMES[*self as usize]
+    }
+}
+
+/// A fault of the tables or of block.csv, with its place.
 #[derive(Clone, Copy, Debug, PartialEq, Eq)]
 pub struct TableFault {
-    /// The number of the file: 0 for settings.toml, 1 to 9 for the tables in their order, 10 for block.csv.
+    /// The number of the file, as in `FILE_NAMES`.
     pub file: u8,
     /// The number of the record after the header, from 1; 0 for the header and for tests on the whole file.
     pub row: u32,
     /// The item of a key in the settings, the number of a specialty in tests on whole files, and 0 otherwise.
     pub item: u32,
+    pub kind: Kind,
+}
+
+/// A fault of the file of a cycle, with its place.
+#[derive(Clone, Copy, Debug, PartialEq, Eq)]
+pub struct CycleFault {
+    /// The number of the record after the header, from 1; 0 for the header and for tests on the whole file.
+    pub row: u32,
     pub kind: Kind,
 }

@@ -79,6 +79,13 @@ impl Text {
     {
         &self.bytes
     }
+
+    /// The bytes alone. It takes no memory.
+    pub fn into_bytes(self) -> Vec<u8>
+        ensures { result.items ≡ self }
+    {
+        self.bytes
+    }
 }
 
 /// The most members of a list whose length is a u32, so that each line of a text on them has a number too.

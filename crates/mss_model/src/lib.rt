@@ -6,6 +6,7 @@
 
 mod block_list;
 mod faults;
+mod files;
 mod growing;
 mod limits;
 mod name_rule;
@@ -16,7 +17,11 @@ mod parts;
 mod table_set;
 
 pub use block_list::Blocks;
-pub use faults::{Kind, TableFault};
+pub use faults::{CycleFault, KIND_NAMES, Kind, TableFault};
+pub use files::{
+    BARRED_FILE, BLOCK_FILE, EQUIPMENT_FILE, FILE_NAMES, FIXED_FILE, NEEDS_FILE, PATIENTS_FILE,
+    ROOMS_FILE, SETTINGS_FILE, SPECIALTIES_FILE, STAYS_FILE, TABLE_FILES, UNSUITED_FILE, file_name,
+};
 pub use growing::{MOST_MEMBERS, Names, Numbers, Text};
 pub use limits::{
     MOST_BUDGET, MOST_DAILY, MOST_DAYS, MOST_KINDS, MOST_LEVEL, MOST_LISTED, MOST_MINUTES,

@@ -35,30 +35,3 @@ fn is_printed(bytes: &[u8]) -> bool
     }
     true
 }
-
-#[cfg(test)]
-mod tests {
-    use super::is_name;
-
-    #[test]
-    fn names_by_the_rule(rt: HostRuntime) {
-        let cases: &[(&[u8], bool)] = &[
-            (b"A", true),
-            (b"Orthop\xc3\xa4die", true),
-            (b" ", true),
-            (b"a,\"b\"", true),
-            (b"--", true),
-            (&[b'x'; 60], true),
-            (b"", false),
-            (b"-", false),
-            (&[b'x'; 61], false),
-            (b"a\tb", false),
-            (b"a\x1f", false),
-            (b"a\x7f", false),
-            (b"Orthop\xe4die", false),
-        ];
-        for (bytes, expected) in cases {
-            assert_eq!(rt; is_name(bytes), *expected);
-        }
-    }
-}

@@ -86,38 +86,3 @@ fn is_stays(stays: &[u32]) -> bool
         [] => false,
     }
 }
-
-#[cfg(test)]
-mod tests {
-    use super::Block;
-    use crate::growing::Numbers;
-    use crate::no_memory::NoMemory;
-    use std::alloc::Global;
-    use std::test::Fail;
-
-    fn numbers(alloc: Global, list: &[u32]) -> Result<Numbers, NoMemory> {
-        let mut numbers = Numbers::make(alloc);
-        for number in list {
-            numbers.push(*number)?;
-        }
-        Ok(numbers)
-    }
-
-    #[test]
-    fn blocks_within_the_limits(rt: HostRuntime) -> Result<(), Fail> {
-        let alloc = rt.alloc();
-        let cases: [(&[u32], &[u32], bool); 6] = [
-            (&[0, 1_000_000], &[500_000, 1_000_000], true),
-            (&[999_999], &[1_000_000], false),
-            (&[1_000_000], &[999_999], false),
-            (&[1_000_000], &[1_000_000, 1_000_000], false),
-            (&[], &[1_000_000], false),
-            (&[1_000_000], &[], false),
-        ];
-        for (patients, stays, expected) in cases {
-            let block = Block::new(numbers(alloc, patients)?, numbers(alloc, stays)?);
-            assert_eq!(rt; block.is_some(), expected);
-        }
-        Ok(())
-    }
-}

@@ -107,29 +107,3 @@ impl NameTable {
         &self.set.as_slice()[number as usize - 1]
     }
 }
-
-#[cfg(test)]
-mod tests {
-    use super::{NameRefusal, NameTable};
-    use std::test::Fail;
-
-    #[test]
-    fn a_full_table(rt: HostRuntime) -> Result<(), Fail> {
-        let mut table = NameTable::make(rt.alloc(), 1)?;
-        let cases: &[(&[u8], Result<u32, NameRefusal>)] = &[
-            (b"A", Ok(1)),
-            (b"A", Ok(1)),
-            (b"B", Err(NameRefusal::TooMany)),
-            (b"", Err(NameRefusal::BadName)),
-            (b"-", Err(NameRefusal::BadName)),
-        ];
-        for (name, expected) in cases {
-            assert_eq!(rt; table.add(name), *expected);
-        }
-        assert_eq!(rt; table.len(), 1);
-        assert_eq!(rt; table.name(1), b"A".as_slice());
-        assert_eq!(rt; table.find(b"A"), Some(1));
-        assert_eq!(rt; table.find(b"B"), None);
-        Ok(())
-    }
-}

@@ -5,9 +5,16 @@
 #![tactic(auto)]
 
 mod block;
+mod certificate;
 mod evaluation;
 mod fault;
+mod json;
+mod plain;
+mod plan;
+mod report;
 
 pub use block::block_text;
-pub use evaluation::evaluate_text;
-pub use fault::{cycle_fault_text, table_fault_text};
+pub use certificate::{cert_fault_text, verdict_text};
+pub use evaluation::{evaluate_json, evaluate_text};
+pub use fault::{cycle_fault_text, rule_text, table_fault_text};
+pub use plan::{PlanSummary, plan_text};

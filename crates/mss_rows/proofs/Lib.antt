@@ -1,5 +1,7 @@
 pub mod UnreadFacts
-mod Digits
+pub mod Digits
 mod RecordFacts
 mod FirstFacts
 mod FirstRecordFacts
+pub mod BackFacts
+pub mod WrittenFacts

@@ -8,11 +8,10 @@ mod fields;
 mod refusal;
 mod rows;
 mod table;
+mod writing;
 
 pub use fields::{five, name_of, number_between, three, two};
 pub use refusal::{Fault, FileRefusal, RowRefusal};
 pub use rows::Rows;
 pub use table::{MOST_BYTES, Table, read_file};
-
-#[cfg(test)]
-mod tests;
+pub use writing::push_row;

@@ -1,4 +1,4 @@
-mod ChanceFacts
+pub mod ChanceFacts
 mod BlockFacts
 mod ListFacts
 mod PatientsFacts
@@ -11,10 +11,10 @@ mod RowFacts
 mod NamesGrow
 mod RoomFacts
 mod FaultFacts
-mod FaultFiles
 mod SpecialtyFacts
 mod WatchFacts
 mod CycleFacts
+mod CycleBack
 mod FirstOfFiles
 mod PartsFacts
 mod TablesFacts

@@ -8,9 +8,6 @@ mod offsets;
 mod thin_row;
 mod thinning;
 
-pub use ages::block_days;
-pub use offsets::steady;
+pub use ages::{admitted, block_days, departures};
+pub use offsets::{steady, steady_departures};
 pub use thin_row::ThinRow;
-
-#[cfg(test)]
-mod tests;

@@ -1,0 +1,292 @@
+// A plain Rust program that does what `mss plan` does: the yardstick of its speed. It reads the settings and tables of the
+// current folder without testing them, makes the same search with the same full lists, the same form of convolution, 16
+// carried prefixes and a heap, writes planned.csv and certificate.txt, and says the same text with the same status.
+//
+// Words change the bounds, and nothing else: `empty` makes each bound from the empty prefix, and `orphans` doesn't bring
+// back the lists of a parent that isn't carried any more before its children are bounded. On standard error it says how
+// many bounds it made, and how often they called the convolution.
+mod plain;
+use plain::lists::{self, CALLS, Lists, UNIT, first_reaching, peak_of, push_full};
+use plain::report::{report, report_text};
+use plain::rules::dead;
+use plain::tables::{Tables, cycle_text, read_tables};
+use std::cmp::Reverse;
+use std::collections::BinaryHeap;
+use std::fmt::Write as _;
+use std::io::Write as _;
+
+const PLACES: usize = 16;
+
+#[derive(Clone, Copy)]
+enum Line {
+    Branch { turn: u32 },
+    Dead { rule: u32 },
+    Full { turn: u32, bound: Bound },
+    Closed { turn: u32, bound: Bound },
+    Open { bound: Bound },
+}
+
+#[derive(Clone, Copy, PartialEq, Eq, PartialOrd, Ord)]
+struct Bound {
+    number: u32,
+    ward: u32,
+    day: u32,
+}
+
+#[derive(Clone)]
+struct Carried {
+    prefix: Vec<u8>,
+    lists: Vec<Vec<u64>>,
+}
+
+#[derive(PartialEq)]
+enum How {
+    Carried,
+    Orphans,
+    Empty,
+}
+
+struct Bounder<'a> {
+    tables: &'a Tables,
+    lists: Lists,
+    spots: Vec<(usize, usize)>,
+    // the most recently used first
+    carried: Vec<Carried>,
+    working: Carried,
+    how: How,
+    value: Vec<u64>,
+    raised: Vec<u64>,
+    scratch: Vec<u64>,
+    bounds: u64,
+    calls: u64,
+}
+
+impl<'a> Bounder<'a> {
+    fn make(tables: &'a Tables, how: How) -> Bounder<'a> {
+        let watched = (1..=tables.wards.len()).filter(|ward| tables.watched[*ward]);
+        let spots: Vec<_> = watched.flat_map(|ward| (1..=tables.days).map(move |day| (ward, day))).collect();
+        let empty = Carried { prefix: vec![], lists: vec![vec![UNIT]; spots.len()] };
+        let lists = lists::steady_lists(tables);
+        Bounder { tables, lists, spots, carried: vec![empty.clone(); PLACES], working: empty, how, value: vec![], raised: vec![], scratch: vec![], bounds: 0, calls: 0 }
+    }
+
+    fn longest(&self, prefix: &[u8]) -> usize {
+        self.carried.iter().filter(|it| prefix.starts_with(&it.prefix)).map(|it| it.prefix.len()).max().unwrap_or(0)
+    }
+
+    // Fills the working place from the front one, or from nothing.
+    fn fill(&mut self, prefix: &[u8], from_front: bool) {
+        let Bounder { tables, lists, spots, carried, working, value, raised, scratch, .. } = self;
+        let start = if from_front { carried[0].prefix.len() } else { 0 };
+        for (at, (ward, day)) in spots.iter().enumerate() {
+            value.clear();
+            if from_front {
+                value.extend_from_slice(&carried[0].lists[at]);
+            } else {
+                value.push(UNIT);
+            }
+            for slot in start..prefix.len() {
+                if let Some(part) = lists::part(tables, lists, *ward, *day, slot, prefix[slot]) {
+                    push_full(value, part, raised, scratch);
+                }
+            }
+            working.lists[at].clear();
+            working.lists[at].extend_from_slice(value);
+        }
+        working.prefix.clear();
+        working.prefix.extend_from_slice(prefix);
+    }
+
+    // Brings the prefix and its lists to the front place.
+    fn carry(&mut self, prefix: &[u8]) {
+        let len = self.longest(prefix);
+        let found = self.carried.iter().position(|it| it.prefix == prefix[..len]);
+        if let Some(at) = found {
+            self.carried[..=at].rotate_right(1);
+            if len == prefix.len() {
+                return;
+            }
+        }
+        self.fill(prefix, found.is_some());
+        std::mem::swap(&mut self.working, self.carried.last_mut().unwrap());
+        self.carried.rotate_right(1);
+    }
+
+    fn bound(&mut self, prefix: &[u8]) -> Bound {
+        let before = CALLS.with(|calls| calls.get());
+        if self.how == How::Empty {
+            self.fill(prefix, false);
+        } else {
+            self.carry(prefix);
+        }
+        let lists = if self.how == How::Empty { &self.working.lists } else { &self.carried[0].lists };
+        let mut bound = Bound { number: 0, ward: 0, day: 0 };
+        for ((ward, day), list) in self.spots.iter().zip(lists) {
+            let number = first_reaching(list, 0, self.tables.level) as u32;
+            if bound.ward == 0 || bound.number < number {
+                bound = Bound { number, ward: *ward as u32, day: *day as u32 };
+            }
+        }
+        self.bounds += 1;
+        self.calls += CALLS.with(|calls| calls.get()) - before;
+        bound
+    }
+
+    fn line(&mut self, prefix: &[u8], parent: &[u8]) -> Line {
+        let rule = dead(self.tables, prefix);
+        if rule != 0 {
+            return Line::Dead { rule: u32::from(rule) };
+        }
+        if self.how == How::Carried && self.longest(parent) < parent.len() {
+            self.bound(parent);
+        }
+        Line::Open { bound: self.bound(prefix) }
+    }
+}
+
+// Compared in the order of the fields.
+#[derive(PartialEq, Eq, PartialOrd, Ord)]
+struct Waiting {
+    number: u32,
+    left: usize,
+    options: Vec<u8>,
+    bound: Bound,
+    node: usize,
+}
+
+struct Node {
+    next: u32,
+    line: Line,
+}
+
+struct Search {
+    nodes: Vec<Node>,
+    queue: BinaryHeap<Reverse<Waiting>>,
+    best: Option<(u32, Vec<u8>)>,
+    turns: u32,
+}
+
+fn child_of(prefix: &[u8], option: u8) -> Vec<u8> {
+    let mut child = Vec::with_capacity(prefix.len() + 1);
+    child.extend_from_slice(prefix);
+    child.push(option);
+    child
+}
+
+impl Search {
+    fn start(bounder: &mut Bounder) -> Search {
+        let line = bounder.line(&[], &[]);
+        let mut queue = BinaryHeap::new();
+        if let Line::Open { bound } = line {
+            queue.push(Reverse(Waiting { number: bound.number, left: bounder.tables.slots(), options: vec![], bound, node: 0 }));
+        }
+        Search { nodes: vec![Node { next: 0, line }], queue, best: None, turns: 0 }
+    }
+
+    fn turn(&mut self, bounder: &mut Bounder, value: &mut Vec<u64>, scratch: &mut Vec<u64>) {
+        let Some(Reverse(taken)) = self.queue.pop() else { return };
+        self.turns += 1;
+        let turn = self.turns;
+        if self.best.as_ref().is_some_and(|best| best.0 <= taken.number) {
+            self.nodes[taken.node].line = Line::Closed { turn, bound: taken.bound };
+        } else if taken.left == 0 {
+            let upper = peak_of(bounder.tables, &bounder.lists, &taken.options, value, scratch).high as u32;
+            if self.best.as_ref().is_none_or(|best| upper < best.0) {
+                self.best = Some((upper, taken.options));
+            }
+            self.nodes[taken.node].line = Line::Full { turn, bound: taken.bound };
+        } else {
+            self.branch(bounder, taken);
+        }
+    }
+
+    fn branch(&mut self, bounder: &mut Bounder, taken: Waiting) {
+        let (first, after) = (self.nodes.len(), self.nodes[taken.node].next);
+        let count = bounder.tables.specialties.len() + 1;
+        for option in 0..count {
+            let options = child_of(&taken.options, option as u8);
+            let line = bounder.line(&options, &taken.options);
+            let node = self.nodes.len();
+            self.nodes.push(Node { next: if option + 1 == count { after } else { node as u32 + 1 }, line });
+            if let Line::Open { bound } = line {
+                self.queue.push(Reverse(Waiting { number: bound.number, left: taken.left - 1, options, bound, node }));
+            }
+        }
+        self.nodes[taken.node] = Node { next: first as u32, line: Line::Branch { turn: self.turns } };
+    }
+
+    // The text of the certificate, and its lower number.
+    fn certificate(&self, tables: &Tables) -> (String, Option<u32>) {
+        let (mut text, mut least, mut at) = (String::new(), None::<u32>, 0);
+        writeln!(text, "mss certificate 1\nslots {} options {} level {}", tables.slots(), tables.specialties.len() + 1, tables.level).unwrap();
+        for _ in 0..self.nodes.len() {
+            let node = &self.nodes[at];
+            let counted = match node.line {
+                Line::Branch { turn } => {
+                    writeln!(text, "branch {turn}").unwrap();
+                    None
+                }
+                Line::Dead { rule } => {
+                    writeln!(text, "dead {rule}").unwrap();
+                    None
+                }
+                Line::Full { turn, bound } => {
+                    writeln!(text, "full {turn} {} {} {}", bound.number, bound.ward, bound.day).unwrap();
+                    Some(bound.number)
+                }
+                Line::Closed { turn, bound } => {
+                    writeln!(text, "closed {turn} {} {} {}", bound.number, bound.ward, bound.day).unwrap();
+                    Some(bound.number)
+                }
+                Line::Open { bound } => {
+                    writeln!(text, "open {} {} {}", bound.number, bound.ward, bound.day).unwrap();
+                    Some(bound.number)
+                }
+            };
+            least = least.into_iter().chain(counted).min();
+            at = node.next as usize;
+        }
+        match least {
+            Some(number) => writeln!(text, "lower {number}").unwrap(),
+            None => text.push_str("none\n"),
+        }
+        (text, least)
+    }
+}
+
+fn shown(number: Option<u32>) -> String {
+    number.map_or("none".to_string(), |number| number.to_string())
+}
+
+fn main() {
+    let how = match std::env::args().nth(1).as_deref() {
+        Some("empty") => How::Empty,
+        Some("orphans") => How::Orphans,
+        _ => How::Carried,
+    };
+    let tables = read_tables();
+    let mut bounder = Bounder::make(&tables, how);
+    let mut search = Search::start(&mut bounder);
+    let (mut value, mut scratch) = (vec![], vec![]);
+    while search.turns < tables.budget && !search.queue.is_empty() {
+        search.turn(&mut bounder, &mut value, &mut scratch);
+    }
+    let (certificate, lower) = search.certificate(&tables);
+    let (spent, upper) = (!search.queue.is_empty(), search.best.as_ref().map(|best| best.0));
+    let (word, status) = match (spent, upper) {
+        (true, Some(_)) => ("spent", 6),
+        (true, None) => ("spent", 7),
+        (false, None) => ("none", 5),
+        (false, Some(_)) => ("done", 0),
+    };
+    let mut text = format!("plan {word}\nupper {}\nlower {}\nturns {}\n", shown(upper), shown(lower), search.turns);
+    if let Some((_, options)) = &search.best {
+        text += &report_text(&tables, options, &report(&tables, options));
+    }
+    let planned = search.best.as_ref().map_or(vec![], |best| cycle_text(&tables, &best.1));
+    std::fs::write("planned.csv", planned).unwrap();
+    std::fs::write("certificate.txt", certificate).unwrap();
+    std::io::stdout().write_all(text.as_bytes()).unwrap();
+    eprintln!("bounds {} calls {}", bounder.bounds, bounder.calls);
+    std::process::exit(status);
+}

@@ -1,0 +1,50 @@
+//! The commands, by the words after the program's name.
+ghost use Rattle.std.specs.Prelude.{◌≡◌};
+ghost use Rattle.mss_app.specs.Requests.{generate_request, request_in};
+
+use mss_evaluate::Form;
+use mss_generate::{Generate, generate_of};
+
+/// What the words ask for.
+#[derive(Clone, Copy, Debug, PartialEq, Eq)]
+pub enum Request {
+    /// The distribution of the patients of one block, age by age.
+    Block,
+    /// The peak of a cycle, and its census, admissions and discharges ward by ward and day by day.
+    Evaluate(Form),
+    /// A legal cycle with a small peak, two numbers that are proved, and the certificate of the lower one.
+    Plan,
+    /// What a certificate proves.
+    Check,
+    /// The tables of a hospital that is drawn from a number.
+    Generate(Generate),
+}
+
+/// The request that the words make, if any.
+pub(crate) fn request_of(words: &[String]) -> Option<Request>
+    ensures { result ≡ request_in words.now }
+{
+    match words {
+        [word] if word.as_str() == "block" => Some(Request::Block),
+        [word] if word.as_str() == "evaluate" => Some(Request::Evaluate(Form::Plain)),
+        [word] if word.as_str() == "plan" => Some(Request::Plan),
+        [word] if word.as_str() == "check" => Some(Request::Check),
+        [word, form] if word.as_str() == "evaluate" && form.as_str() == "json" => {
+            Some(Request::Evaluate(Form::Json))
+        }
+        [word, number, size] if word.as_str() == "generate" => {
+            generate_request(generate_of(number.as_str(), size.as_str()))
+        }
+        _ => None,
+    }
+}
+
+/// The request to generate, where its words are in order.
+fn generate_request(command: Option<Generate>) -> Option<Request>
+    ensures { result ≡ generate_request command }
+{
+    match command {
+        Some(command) => Some(Request::Generate(command)),
+        None => None,
+    }
+}

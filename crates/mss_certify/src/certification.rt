@@ -1,0 +1,124 @@
+//! The command `check`: whether a certificate is valid, and what it proves of all legal cycles.
+ghost use Rattle.std.specs.Prelude.{◌≡◌, Some, IfOk, IsTrue};
+ghost use Rattle.mss_model.specs.PartsOf.{parts_of};
+ghost use Rattle.mss_report.specs.CertificateTexts.{cert_fault_text_of};
+ghost use Rattle.mss_command.specs.Answers.{Prepares};
+ghost use Rattle.mss_command.specs.Fetched.{IsWithin, fetched_of};
+ghost use Rattle.mss_command.specs.Outcome.{outcome_of, saying};
+ghost use Rattle.mss_command.specs.Questions.{AskLacks, Asks, may_end_asking};
+ghost use Rattle.mss_certify.specs.Check.{CheckDefines, CheckPromised, VerdictDefines, certificate_file, certificate_limit, check_may_answer, verdict_status};
+ghost use Rattle.mss_certify.specs.CheckLaws.{check_keeps};
+
+use mss_cert::{CertFault, CertKind, CertRefusal, Certificate, Verdict, read};
+use mss_check::check;
+use mss_command::{Command, Contents, Question, Reply, Status, Stop, ask};
+use mss_desk::Desk;
+use mss_enclose::Kernel;
+use mss_model::{NoMemory, Tables};
+use mss_report::{cert_fault_text, verdict_text};
+use mss_rules::Legal;
+use std::alloc::Global;
+
+/// Whether the certificate of certificate.txt is valid under the tables, and what it proves.
+#[derive(Clone, Copy, Debug)]
+pub struct Certification;
+
+/// The most bytes of certificate.txt.
+const MOST_BYTES: usize = 67_108_864;
+
+/// The fault of a file that is longer than its limit.
+const TOO_LONG: CertFault = CertFault {
+    line: 0,
+    kind: CertKind::TooLong,
+};
+
+impl Question for Certification {
+    ghost name = { λ question. Some certificate_file };
+
+    ghost limit = { λ question. certificate_limit };
+
+    ghost Answers = { λ question. CheckDefines };
+
+    ghost may_answer = { λ question. check_may_answer };
+
+    fn file(&self) -> Option<&'static str> {
+        Some("certificate.txt")
+    }
+
+    fn most_bytes(&self) -> usize {
+        MOST_BYTES
+    }
+
+    fn answer<K: Kernel>(
+        &self,
+        alloc: Global,
+        kernel: &K,
+        tables: &Tables,
+        contents: &Contents,
+    ) -> Result<Reply, NoMemory> {
+        let bytes = match contents {
+            Contents::Bytes(bytes) => bytes,
+            Contents::TooLong => return fault_reply(alloc, &TOO_LONG),
+        };
+        match read(alloc, bytes) {
+            Ok(certificate) => verdict_reply(alloc, kernel, tables, &certificate),
+            Err(CertRefusal::Fault(fault)) => fault_reply(alloc, &fault),
+            Err(CertRefusal::NoMemory) => Err(NoMemory),
+        }
+    }
+}
+
+impl Command for Certification {
+    ghost Defines = { λ command. Asks CheckDefines (Some certificate_file) certificate_limit };
+
+    ghost Lacks = { λ command. AskLacks (Some certificate_file) certificate_limit };
+
+    ghost may_end = { λ command. may_end_asking check_may_answer };
+
+    ghost Promised = { λ command. CheckPromised };
+
+    fn prepare<D: Desk, K: Kernel>(
+        &self,
+        alloc: Global,
+        desk: &mut D,
+        kernel: &K,
+    ) -> Result<Reply, Stop> {
+        ask(alloc, self, desk, kernel)
+    }
+
+    ghost keeps = { λ command. check_keeps };
+}
+
+/// The reply to a fault of the text.
+fn fault_reply(alloc: Global, fault: &CertFault) -> Result<Reply, NoMemory>
+    ensures outcome { IfOk result (λ reply. outcome_of reply ≡ saying Status.Certificate (cert_fault_text_of fault.now)) }
+    ensures status { IfOk result (λ reply. IsTrue (check_may_answer reply.status)) }
+{
+    Ok(Reply::saying(alloc, Status::Certificate, cert_fault_text(alloc, fault)?))
+}
+
+/// The reply to a certificate under these tables: what it proves where it is valid, and else its first line that fails.
+fn verdict_reply<K: Kernel>(
+    alloc: Global,
+    kernel: &K,
+    tables: &Tables,
+    certificate: &Certificate,
+) -> Result<Reply, NoMemory>
+    ensures defines { IfOk result (λ reply. VerdictDefines (parts_of tables.now) certificate.now (outcome_of reply)) }
+    ensures status { IfOk result (λ reply. IsTrue (check_may_answer reply.status)) }
+{
+    let verdict = check(alloc, tables, kernel, &Legal, certificate)?;
+    let text = verdict_text(alloc, &verdict)?;
+    Ok(Reply::saying(alloc, status_of(&verdict), text))
+}
+
+/// The status of what the checker says.
+fn status_of(verdict: &Verdict) -> Status
+    ensures value { result ≡ verdict_status verdict.now }
+    ensures status { IsTrue (check_may_answer result) }
+{
+    match verdict {
+        Verdict::Yes(_) => Status::Done,
+        Verdict::No { .. } => Status::Certificate,
+    }
+}

@@ -1,0 +1,6 @@
+//! The command `check`.
+#![tactic(auto)]
+
+mod certification;
+
+pub use certification::Certification;

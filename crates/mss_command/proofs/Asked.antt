@@ -1,0 +1,73 @@
+-- What a question comes to, from the files that were gathered and its own file as it was read.
+use Rattle.std.proofs.Common.{◌≡◌, ◌≤◌, ◌⊎◌, ℕ, List, Bool, true, Option, Some, None, inl, inr, refl, sym, subst, arith}
+use Rattle.std.specs.Prelude.{IsTrue}
+use Rattle.mss_model.specs.PartsOf.{parts_of}
+use Rattle.mss_model.specs.declared.parts.TableParts.{TableParts}
+use Rattle.mss_model.specs.declared.table_set.Tables.{Tables}
+use Rattle.mss_desk.specs.Desk.{Content, IfTold, Rose}
+use Rattle.mss_command.specs.declared.status.Status.{Status}
+use Rattle.mss_command.specs.declared.status.Status.TheVariants as statuses
+use Rattle.mss_command.specs.declared.tables.Judged.TheVariants as judged
+use Rattle.mss_command.specs.Answers.{IsLacking}
+use Rattle.mss_command.specs.Fetched.{Fetched, Missing}
+use Rattle.mss_command.specs.Gathered.{Gathered, AllRead, Lacking, Long, gathered}
+use Rattle.mss_command.specs.Outcome.{Outcome}
+use Rattle.mss_command.specs.Questions.{AskLacks, Asks, AsksGathered, IsUnwanted, LacksGathered, may_end_asking, wanted}
+use Rattle.mss_command.specs.Status.{ends_by}
+use Rattle.mss_command.specs.Tables.{Judges}
+
+-- a status of an answer is one of the question
+pub ends_asking : (may_answer : Status → Bool) (status : Status) → IsTrue (ends_by may_answer status) → IsTrue (ends_by (may_end_asking may_answer) status)
+ends_asking may_answer statuses.Done h = h
+ends_asking may_answer statuses.Words h = h
+ends_asking may_answer statuses.Tables h = refl
+ends_asking may_answer statuses.Cycle h = h
+ends_asking may_answer statuses.Certificate h = h
+ends_asking may_answer statuses.NoCycle h = h
+ends_asking may_answer statuses.SpentWithCycle h = h
+ends_asking may_answer statuses.SpentWithout h = h
+ends_asking may_answer statuses.ReadFault h = h
+ends_asking may_answer statuses.WriteFault h = h
+ends_asking may_answer statuses.NoMemory h = h
+
+module _ (answers : TableParts → Fetched → Outcome → Type 0) (name : Option (List ℕ)) (limit : ℕ) where
+  -- the tables are accepted, and the question is answered under them
+  accepted : (g : Gathered) (tables : Tables) (file : Fetched) (o : Outcome) → Judges g (judged.Tables tables) → answers (parts_of tables) file o → AsksGathered answers g file o
+  accepted (AllRead files) tables file o h known = inl (record { accepted = h.accepted; answered = subst (λ p. answers p file o) h.meaning known })
+  accepted Lacking tables file o h known = absurd h
+  accepted (Long number) tables file o h known = absurd h
+
+  -- the tables are accepted, and the file of the question isn't there
+  lacking : (g : Gathered) (tables : Tables) (file : Fetched) → Judges g (judged.Tables tables) → file ≡ Missing → LacksGathered g file
+  lacking (AllRead files) tables file h missing = (h.accepted, missing)
+  lacking Lacking tables file h missing = absurd h
+  lacking (Long number) tables file h missing = absurd h
+
+  -- the same of what a desk tells
+  defined : (t : Option Content) (g : Gathered) (tables : Tables) (file : Fetched) (o : Outcome)
+      → IfTold t (λ c. gathered c.files ≡ g) → Judges g (judged.Tables tables)
+      → IfTold t (λ c. wanted name limit c.files ≡ file) → answers (parts_of tables) file o
+      → IfTold t (λ c. Asks answers name limit c.files o)
+  defined (Some c) g tables file o is h read known =
+      accepted (gathered c.files) tables _ o (subst (λ g. Judges g (judged.Tables tables)) (sym is) h) (subst (λ f. answers (parts_of tables) f o) (sym read) known)
+  defined None g tables file o is h read known = tt
+
+  is_lacking : (t : Option Content) (g : Gathered) (tables : Tables) → IfTold t (λ c. gathered c.files ≡ g) → Judges g (judged.Tables tables)
+      → IsUnwanted name limit t → IsLacking (AskLacks name limit) t
+  is_lacking (Some c) g tables is h missing = lacking (gathered c.files) tables _ (subst (λ g. Judges g (judged.Tables tables)) (sym is) h) missing
+  is_lacking None g tables is h missing = missing
+
+  -- the file was read after the tables were gathered, when the desk told the same
+  pub asked : (t u : Option Content) (g : Gathered) (tables : Tables) (file : Fetched) (o : Outcome) → u ≡ t
+      → IfTold t (λ c. gathered c.files ≡ g) → Judges g (judged.Tables tables)
+      → IfTold u (λ c. wanted name limit c.files ≡ file) → answers (parts_of tables) file o
+      → IfTold t (λ c. Asks answers name limit c.files o)
+  asked t u g tables file o same is h read known =
+      defined t g tables file o is h (subst (λ w. IfTold w (λ c. wanted name limit c.files ≡ file)) same read) known
+
+  -- the file couldn't be read
+  pub file_cause : (t u : Option Content) (first before now : ℕ) (g : Gathered) (tables : Tables) → u ≡ t → first ≤ before
+      → IfTold t (λ c. gathered c.files ≡ g) → Judges g (judged.Tables tables)
+      → Rose before now ⊎ IsUnwanted name limit u → Rose first now ⊎ IsLacking (AskLacks name limit) t
+  file_cause t u first before now g tables same less is h (inl rose) = inl (omega arith)
+  file_cause t u first before now g tables same less is h (inr missing) = inr (is_lacking t g tables is h (subst (IsUnwanted name limit) same missing))

@@ -1,0 +1,5 @@
+pub mod Answered
+pub mod Delivered
+pub mod Gathered
+pub mod Prepared
+pub mod Asked

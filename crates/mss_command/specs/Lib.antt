@@ -1,0 +1,10 @@
+pub mod Status
+pub mod Outcome
+pub mod Refusals
+pub mod Fetched
+pub mod Gathered
+pub mod Tables
+pub mod Answers
+pub mod Questions
+pub mod GatheredLaws
+pub mod QuestionLaws

@@ -1,0 +1,23 @@
+//! What the commands have in common: reading their files, what they come to, and its delivery.
+//!
+//! A command only reads and comes to a reply; `carry_out` delivers the reply, and its contract says for every command
+//! and every desk what was put and said at each status. A question about the tables says only what it answers under
+//! tables that are accepted; `ask` makes a command of it.
+#![tactic(auto)]
+
+mod command;
+mod deliver;
+mod gather;
+mod question;
+mod reading;
+mod refusal;
+mod reply;
+mod status;
+mod tables;
+
+pub use command::{Command, carry_out};
+pub use question::{Question, ask};
+pub use reading::{Contents, fetch};
+pub use refusal::{cycle_refusal, long_refusal, rule_refusal, table_refusal};
+pub use reply::{Put, Reply, Stop};
+pub use status::Status;

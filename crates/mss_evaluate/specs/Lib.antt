@@ -1,0 +1,4 @@
+pub mod Block
+pub mod BlockLaws
+pub mod Evaluate
+pub mod EvaluateLaws

@@ -1,0 +1,3 @@
+mod ReadNumbers
+mod PutSteps
+mod Told

@@ -1,0 +1,26 @@
+-- What the command `generate` comes to.
+use Rattle.std.specs.Prelude.{◌≡◌, ℕ, Bool, true, false}
+use Rattle.mss_tables.specs.TablesMeaning.{tables_in}
+use Rattle.mss_command.specs.declared.status.Status.{Status}
+use Rattle.mss_command.specs.declared.status.Status.TheVariants as statuses
+use Rattle.mss_command.specs.Outcome.{Outcome}
+use Rattle.mss_search.specs.declared.planner.Planned.{Planned}
+use Rattle.mss_plan.specs.Plan.{IsPlan, summary_of}
+use Rattle.mss_gen.specs.Generated.{generated}
+use Rattle.mss_gen.specs.declared.size.Size.{Size}
+use Rattle.mss_generate.specs.Puts.{table_puts}
+use Rattle.mss_generate.specs.Summary.{generate_text}
+
+-- the generated files are put in the order of their numbers, and the numbers of a plan of the tables that they
+-- mean are said
+pub record Generates (number : ℕ) (size : Size) (o : Outcome) : Type 0 where
+  pub plan : Planned
+  pub is : IsPlan (tables_in (generated number size)) plan
+  pub status : o.status ≡ statuses.Done
+  pub puts : o.puts ≡ table_puts (generated number size)
+  pub text : o.text ≡ generate_text number size (tables_in (generated number size)) (summary_of plan)
+
+-- it ends in no other status than this, beside faults of writing and want of memory
+abbrev pub generate_may_end : Status → Bool
+generate_may_end statuses.Done = true
+generate_may_end _ = false

@@ -1,0 +1,57 @@
+-- How long the text of a certificate is.
+use Rattle.std.proofs.Common.{ℕ, ◌+◌, ◌*◌, ◌^◌, ◌<◌, ◌≤◌, List, [], ◌∷◌, ◌++◌, length, arith, length-append}
+use Rattle.std.specs.Prelude.{codes, decimal}
+use Rattle.std.specs.List.{AllByRecursion}
+use Rattle.std.proofs.lemmas.Fmt.{length-decimal-le}
+use Rattle.mss_cert.specs.declared.certificate.Line.{Line}
+use Rattle.mss_cert.specs.declared.certificate.Line.TheVariants.{Branch, Dead, Full, Closed, OpenAt}
+use Rattle.mss_cert.specs.declared.certificate.End.{End}
+use Rattle.mss_cert.specs.declared.certificate.End.TheVariants.{Lower, NoneLegal}
+use Rattle.mss_cert.specs.declared.certificate.Certificate.{Certificate}
+use Rattle.mss_cert.specs.CertificateText.{AreShort, IsShort, IsShortEnd, IsShortLine, certificate_text, end_text, fields, head_text, line_text, tree_text}
+
+nine : (n : ℕ) → n < 10 ^ 9 → length (decimal n) ≤ 9
+nine n short = length-decimal-le 9 n (omega arith) short (omega arith)
+
+fields-long : (ns : List ℕ) → AreShort ns → length (fields ns) ≤ 10 * length ns
+fields-long [] h = omega arith
+fields-long (n ∷ ns) h = omega (arith, nine n h.0, fields-long ns h.1, length-append (decimal n) (fields ns))
+
+line-long : (l : Line) → IsShortLine l → length (line_text l) ≤ 46
+line-long (Branch turn) h = omega (arith, fields-long (turn ∷ []) h)
+line-long (Dead rule) h = omega (arith, fields-long (rule ∷ []) h)
+line-long (Full turn number ward day) h = omega (arith, fields-long (turn ∷ number ∷ ward ∷ day ∷ []) h)
+line-long (Closed turn number ward day) h = omega (arith, fields-long (turn ∷ number ∷ ward ∷ day ∷ []) h)
+line-long (OpenAt number ward day) h = omega (arith, fields-long (number ∷ ward ∷ day ∷ []) h)
+
+end-long : (e : End) → IsShortEnd e → length (end_text e) ≤ 15
+end-long (Lower number) h = omega (arith, fields-long (number ∷ []) h)
+end-long NoneLegal h = omega arith
+
+tree-long : (ls : List Line) → AllByRecursion IsShortLine ls → length (tree_text ls) ≤ 47 * length ls
+tree-long [] h = omega arith
+tree-long (l ∷ ls) h = omega (arith, line-long l h.0, tree-long ls h.1, length-append (line_text l) (10 ∷ tree_text ls))
+
+head-long : (slots options level : ℕ) → AreShort (slots ∷ options ∷ level ∷ []) → length (head_text slots options level) ≤ 60
+head-long slots options level h =
+    omega (
+      arith,
+      nine slots h.0,
+      nine options h.1.0,
+      fields-long (level ∷ []) h.1.1,
+      length-append (decimal slots) (codes " options" ++ (32 ∷ (decimal options ++ (codes " level" ++ fields (level ∷ []))))),
+      length-append (decimal options) (codes " level" ++ fields (level ∷ [])),
+    )
+
+-- a certificate of short numbers has at most 47 bytes for each line of its tree, and 100 beside
+pub certificate-long : (c : Certificate) → IsShort c → length (certificate_text c) ≤ 47 * length c.tree + 100
+certificate-long c h =
+    omega (
+      arith,
+      head-long c.slots c.options c.level h.head,
+      tree-long c.tree h.tree,
+      end-long c.end h.last,
+      length-append (head_text c.slots c.options c.level) (10 ∷ (tree_text c.tree ++ (end_text c.end ++ 10 ∷ []))),
+      length-append (tree_text c.tree) (end_text c.end ++ 10 ∷ []),
+      length-append (end_text c.end) (10 ∷ []),
+    )

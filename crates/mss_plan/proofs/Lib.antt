@@ -1,0 +1,4 @@
+pub mod RuleNumbers
+pub mod CertificateSize
+pub mod NoCycle
+pub mod LegalPlan

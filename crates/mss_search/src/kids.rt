@@ -1,0 +1,127 @@
+//! The lines of new prefixes, and their entries in the queue.
+ghost use Rattle.std.specs.Prelude.{◌≡◌, ℕ, ◌+◌, ◌<◌, ◌≤◌, ◌^◌, [], ◌∷◌, ◌++◌, length, IfOk};
+ghost use Rattle.std.specs.List.{All};
+ghost use Rattle.mss_model.specs.TableWords.{slot_count, option_count};
+ghost use Rattle.mss_model.specs.PartsOf.{parts_of};
+ghost use Rattle.mss_bounds.specs.BounderView.{IsBounderOf};
+ghost use Rattle.mss_bounds.specs.PrefixBound.{bound_of};
+ghost use Rattle.mss_search.specs.Kids.{fresh_line, kid_lines, HasKids};
+
+use crate::queue::{Queue, Waiting};
+use mss_bounds::Bounder;
+use mss_cert::Line;
+use mss_enclose::{Enclosure, Kernel};
+use mss_model::{NoMemory, Tables};
+use mss_rules::Rules;
+use std::alloc::Global;
+
+/// The line of a prefix when it is made: dead by a rule, or open with its bound.
+pub(crate) fn fresh_line<E: Enclosure, K: Kernel, R: Rules>(
+    tables: &Tables,
+    kernel: &K,
+    rules: &R,
+    bounder: &mut Bounder<E>,
+    prefix: &[u8],
+) -> Line
+    requires tables { IsBounderOf (parts_of tables.now) bounder.old }
+    requires long { length prefix.now ≤ slot_count (parts_of tables.now) }
+    requires options { All (λ option. option < option_count (parts_of tables.now)) prefix.now }
+    ensures line { result ≡ fresh_line (R.rule (parts_of tables.now)) (bound_of E.joined E.low_of (parts_of tables.now)) prefix.now }
+    ensures bounder { IsBounderOf (parts_of tables.now) bounder.new }
+{
+    match rules.dead(tables, prefix) {
+        Some(rule) => Line::Dead {
+            rule: u32::from(rule),
+        },
+        None => {
+            let bound = bounder.bound(kernel, tables, prefix);
+            Line::OpenAt {
+                number: bound.number,
+                ward: u32::from(bound.ward),
+                day: u32::from(bound.day),
+            }
+        }
+    }
+}
+
+/// Makes the bounder carry a prefix, so that the bounds of its children go on from its lists: best first takes a prefix
+/// long after it was bound, when other prefixes may have taken its place.
+fn carry<E: Enclosure, K: Kernel>(
+    tables: &Tables,
+    kernel: &K,
+    bounder: &mut Bounder<E>,
+    prefix: &[u8],
+)
+    requires tables { IsBounderOf (parts_of tables.now) bounder.old }
+    requires long { length prefix.now ≤ slot_count (parts_of tables.now) }
+    requires options { All (λ option. option < option_count (parts_of tables.now)) prefix.now }
+    ensures { IsBounderOf (parts_of tables.now) bounder.new }
+{
+    if (bounder.carried(prefix) as usize) < prefix.len() {
+        let _bound = bounder.bound(kernel, tables, prefix);
+    }
+}
+
+/// A prefix and one option more.
+fn child_of(alloc: Global, prefix: &[u8], option: u8) -> Result<Vec<u8>, NoMemory>
+    ensures { IfOk result (λ v. v.items ≡ prefix.now ++ option ∷ []) }
+{
+    let mut child = Vec::new(alloc);
+    child.extend_from_slice(prefix)?;
+    child.push(option)?;
+    Ok(child)
+}
+
+/// The lines of the children of a prefix that isn't full, in the order of options.
+pub(crate) fn kid_lines<E: Enclosure, K: Kernel, R: Rules>(
+    alloc: Global,
+    tables: &Tables,
+    kernel: &K,
+    rules: &R,
+    bounder: &mut Bounder<E>,
+    prefix: &[u8],
+) -> Result<Vec<Line>, NoMemory>
+    requires tables { IsBounderOf (parts_of tables.now) bounder.old }
+    requires short { length prefix.now < slot_count (parts_of tables.now) }
+    requires options { All (λ option. option < option_count (parts_of tables.now)) prefix.now }
+    ensures lines { IfOk result (λ v. v.items ≡ kid_lines (R.rule (parts_of tables.now)) (bound_of E.joined E.low_of (parts_of tables.now)) (option_count (parts_of tables.now)) prefix.now) }
+    ensures bounder { IsBounderOf (parts_of tables.now) bounder.new }
+{
+    carry(tables, kernel, bounder, prefix);
+    let mut lines = Vec::new(alloc);
+    for option in 0..tables.specialties() + 1 {
+        let child = child_of(alloc, prefix, option)?;
+        lines.push(fresh_line(tables, kernel, rules, bounder, child.as_slice()))?;
+    }
+    Ok(lines)
+}
+
+/// Puts an entry into the queue for each open line among those of the children of a prefix, whose nodes are those from
+/// the first on.
+pub(crate) fn push_kids(
+    alloc: Global,
+    queue: &mut Queue,
+    left: u32,
+    prefix: &[u8],
+    first: u32,
+    lines: &[Line],
+) -> Result<(), NoMemory>
+    requires few { length lines.now < 2 ^ 8 }
+    requires small { first + length lines.now < 2 ^ 32 }
+    ensures { IfOk result (λ _. HasKids left first prefix.now lines.now (length lines.now) queue.old queue.new) }
+{
+    for i in 0..lines.len() {
+        if let Line::OpenAt { number, ward, day } = lines[i] {
+            let options = child_of(alloc, prefix, i as u8)?;
+            queue.push(Waiting {
+                left,
+                number,
+                options,
+                ward,
+                day,
+                node: first + i as u32,
+            })?;
+        }
+    }
+    Ok(())
+}

@@ -1,0 +1,10 @@
+pub mod Light
+pub mod Steady
+pub mod Loads
+pub mod Prices
+pub mod Powers
+pub mod Needed
+pub mod Rows
+pub mod WeightPrices
+pub mod BlockWeights
+pub mod Shown
