@@ -1,0 +1,42 @@
+ghost use Rattle.std.specs.Prelude.{◌≡◌};
+ghost use Rattle.mss_model.specs.PartsOf.{parts_of};
+ghost use Rattle.mss_census.specs.WardLists.{lists_of};
+
+use super::{FOUR_SLOTS, tables_of, two_blocks};
+use mss_census::Census;
+use mss_enclose::{Masses, Plain};
+use mss_model::Tables;
+use mss_pctl::peak_pair;
+use std::alloc::AllocGlobal;
+use std::process::Abort;
+
+/// A census of these tables.
+fn census_of(rt: &(impl AllocGlobal + Abort), tables: &Tables) -> Census<Masses>
+    ensures { result.lists ≡ lists_of (parts_of tables.now) }
+{
+    match Census::<Masses>::make(rt.alloc(), &Plain, tables) {
+        Ok(census) => census,
+        Err(_) => panic!(rt; "no memory"),
+    }
+}
+
+#[test]
+fn a_slot_that_is_passed_over_is_idle(rt: HostRuntime) {
+    let tables = tables_of(&rt, &FOUR_SLOTS);
+    let known = 2 < tables.slots() && tables.specialties() == 1;
+    assert!(rt; known);
+    let mut census = census_of(&rt, &tables);
+    census.restart(1, 2);
+    census.push_slot(&Plain, &tables, 2, 1);
+    assert_eq!(rt; census.next_slot(), 3);
+    assert_eq!(rt; census.prefix(), [0, 0, 1].as_slice());
+}
+
+#[test]
+fn the_peak_is_where_two_blocks_meet(rt: HostRuntime) {
+    let tables = tables_of(&rt, &FOUR_SLOTS);
+    let cycle = two_blocks(&rt, &tables, 2, 3);
+    let mut census = census_of(&rt, &tables);
+    let peak = peak_pair(&Plain, &mut census, &tables, &cycle);
+    assert_eq!(rt; (peak.low, peak.high, peak.ward, peak.day), (4, 4, 1, 2));
+}
