@@ -5,13 +5,14 @@
 
 mod certificate;
 mod faults;
-mod fields;
+mod lines;
 mod reading;
 mod verdict;
 mod writing;
 
-pub use certificate::{Certificate, End, Line, Lines};
+pub use certificate::{Certificate, End, Line};
 pub use faults::{CertFault, CertKind, CertRefusal};
+pub use lines::Lines;
 pub use reading::read;
 pub use verdict::{Reason, Verdict};
 pub use writing::write;

@@ -1,0 +1,4 @@
+pub mod Digits
+pub mod SpacedNumbers
+pub mod OneLine
+pub mod FieldSizes
