@@ -8,3 +8,7 @@ pub mod Rows
 pub mod WeightPrices
 pub mod BlockWeights
 pub mod Shown
+pub mod WeightsText
+pub mod WeightsFaults
+pub mod ListLines
+pub mod Labelled
