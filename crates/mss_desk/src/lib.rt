@@ -11,6 +11,6 @@ mod shelf;
 mod sure;
 
 pub use desk::{Desk, ReadAnswer, WriteAnswer};
-pub use folder::FolderDesk;
+pub use folder::{FolderDesk, UNFINISHED};
 pub use memory::MemoryDesk;
 pub use sure::SureDesk;
