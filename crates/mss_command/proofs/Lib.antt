@@ -3,3 +3,5 @@ pub mod Delivered
 pub mod Gathered
 pub mod Prepared
 pub mod Asked
+pub mod CyclesJudged
+mod ReadNumbers

@@ -1,6 +1,7 @@
 -- Files that were gathered are stored.
 use Rattle.std.proofs.Common.{◌≡◌, ℕ, ◌+◌, Bool, true, false, cond, ltb, List, [], ◌∷◌, length, map, Option, Some, None, refl, sym, ap, ◌∙◌}
 use Rattle.std.specs.FinMap.{get}
+use Rattle.std.specs.List.{AllByRecursion}
 use Rattle.mss_model.specs.Files.{table_names}
 use Rattle.mss_model.specs.declared.parts.TableParts.{TableParts}
 use Rattle.mss_desk.specs.Desk.{Files}
@@ -42,6 +43,18 @@ pub tables_stored : (files : Files) (tables : List (List ℕ)) → gathered file
 unfolding gathered
 tables_stored files tables e = all_stored files 0 table_names tables e
 
+-- where each file of these names is as before, the same is gathered
+gathered_same : (before after : Files) (first : ℕ) (names : List (List ℕ)) → AllByRecursion (λ name. get after name ≡ get before name) names
+    → gathered_from first after names ≡ gathered_from first before names
+gathered_same before after first [] same = refl
+gathered_same before after first (name ∷ names) same =
+    ap (λ stored. and_then first (within file_limit stored) (gathered_from (first + 1) after names)) same.0
+    ∙ ap (and_then first (fetched file_limit before name)) (gathered_same before after (first + 1) names same.1)
+
+pub tables_same : (before after : Files) → AllByRecursion (λ name. get after name ≡ get before name) table_names → gathered after ≡ gathered before
+unfolding gathered
+tables_same before after same = gathered_same before after 0 table_names same
+
 -- files that were gathered and are accepted are stored as the tables that they mean
 pub stores : (files : Files) (bytes : List (List ℕ)) → gathered files ≡ AllRead bytes → tables_fault bytes ≡ None → StoresTables files (tables_in bytes)
-stores files bytes e accepted = record { bytes = bytes; stored = tables_stored files bytes e; accepted = accepted; meaning = refl }
+stores files bytes e accepted = record { bytes = bytes; stored = tables_stored files bytes e; read = e; accepted = accepted; meaning = refl }

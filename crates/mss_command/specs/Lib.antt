@@ -8,3 +8,13 @@ pub mod Answers
 pub mod Questions
 pub mod GatheredLaws
 pub mod QuestionLaws
+pub mod PutFacts
+pub mod OneOutcome
+pub mod OneCycle
+pub mod Numbers
+pub mod Usage
+pub mod UsageLaws
+pub mod Cycles
+pub mod Judging
+pub mod CycleLaws
+pub mod Examples

@@ -48,10 +48,11 @@ LacksGathered (AllRead files) file = (tables_fault files ≡ None) × (file ≡ 
 abbrev pub AskLacks : Option (List ℕ) → ℕ → Files → Type 0
 AskLacks name limit files = LacksGathered (gathered files) (wanted name limit files)
 
--- the ten files are stored, are accepted, and mean these tables
+-- the ten files are stored, each within its limit, are accepted, and mean these tables
 pub record StoresTables (files : Files) (tables : TableParts) : Type 0 where
   pub bytes : List (List ℕ)
   pub stored : map (λ name. get files name) table_names ≡ map (λ file. Some file) bytes
+  pub read : gathered files ≡ AllRead bytes
   pub accepted : tables_fault bytes ≡ None
   pub meaning : tables ≡ tables_in bytes
 

@@ -35,7 +35,7 @@ pub fn long_refusal(alloc: Global, file: u8) -> Result<Reply, NoMemory>
 }
 
 /// The reply to a fault of the cycle.
-pub fn cycle_refusal(alloc: Global, fault: &CycleFault) -> Result<Reply, NoMemory>
+pub(crate) fn cycle_refusal(alloc: Global, fault: &CycleFault) -> Result<Reply, NoMemory>
     ensures outcome { IfOk result (λ reply. outcome_of reply ≡ saying Status.Cycle (cycle_fault_text_of fault.now)) }
     ensures status { IfOk result (λ reply. reply.status ≡ Status.Cycle) }
 {
@@ -43,7 +43,7 @@ pub fn cycle_refusal(alloc: Global, fault: &CycleFault) -> Result<Reply, NoMemor
 }
 
 /// The reply to a cycle that breaks a rule.
-pub fn rule_refusal(alloc: Global, rule: u8) -> Result<Reply, NoMemory>
+pub(crate) fn rule_refusal(alloc: Global, rule: u8) -> Result<Reply, NoMemory>
     ensures outcome { IfOk result (λ reply. outcome_of reply ≡ saying Status.Cycle (rule_text_of rule)) }
     ensures status { IfOk result (λ reply. reply.status ≡ Status.Cycle) }
 {

@@ -1,12 +1,12 @@
 -- What the command `block` comes to, and what it promises.
-use Rattle.std.specs.Prelude.{◌≡◌, ◌⊎◌, ℕ, Bool, true, false, List, [], ◌++◌, Some, codes, flat_map}
+use Rattle.std.specs.Prelude.{◌≡◌, ◌⊎◌, ℕ, Bool, true, false, List, [], ◌++◌, Some, codes, flat_map, map}
 use Rattle.std.specs.List.{All}
 use Rattle.std.specs.FinMap.{get}
 use Rattle.mss_model.specs.BlockAtAge.{BlockView}
 use Rattle.mss_model.specs.declared.faults.TableFault.{TableFault}
 use Rattle.mss_desk.specs.Desk.{Files, Content}
 use Rattle.mss_tables.specs.BlockFile.{MeansBlock, block_fault_in}
-use Rattle.mss_report.specs.BlockText.{BlockLine, BlockLineHolds, PrintsBlock, block_line_text}
+use Rattle.mss_report.specs.BlockText.{BlockLine, BlockLineHolds, PrintsBlock, block_line_text, block_subjects, subject}
 use Rattle.mss_report.specs.Faults.{fault_text_of}
 use Rattle.mss_command.specs.declared.status.Status.{Status}
 use Rattle.mss_command.specs.declared.status.Status.TheVariants as statuses
@@ -42,8 +42,9 @@ block_may_end statuses.Done = true
 block_may_end statuses.Tables = true
 block_may_end _ = false
 
--- The text is that of some lines, and each line holds of the block that block.csv means: its two decimals enclose the
--- exact chance that so many patients are there at that age, and are at most 10^-9 apart.
+-- The text is that of lines on all ages and numbers of patients in order, and each line holds of the block that
+-- block.csv means: its two decimals enclose the exact chance that so many patients are there at that age, and are at
+-- most 10^-9 apart.
 pub record PrintedBlock (files : Files) (text : List ℕ) : Type 0 where
   pub bytes : List ℕ
   pub stored : get files block_file ≡ Some bytes
@@ -51,6 +52,7 @@ pub record PrintedBlock (files : Files) (text : List ℕ) : Type 0 where
   pub means : MeansBlock bytes block
   pub lines : List BlockLine
   pub exact : text ≡ codes "mss block 1\n" ++ flat_map block_line_text lines
+  pub subjects : map subject lines ≡ block_subjects block
   pub hold : All (BlockLineHolds block) lines
 
 -- at status 0 the files are as before, and a text with that meaning was said

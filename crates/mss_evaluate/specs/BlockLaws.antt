@@ -17,7 +17,7 @@ read : (files : Files) (bytes : List ℕ) (long : Bool) (o : Outcome) → get fi
     → o.status ≡ statuses.Done → PrintedBlock files o.text × (o.puts ≡ [])
 read files bytes true o stored defines done = absurd (not_refused o _ defines done)
 read files bytes false o stored (inl p) done =
-    (record { bytes = bytes; stored = stored; block = p.block; means = p.means; lines = block_lines p.block; exact = p.prints.exact; hold = p.prints.hold }, p.puts)
+    (record { bytes = bytes; stored = stored; block = p.block; means = p.means; lines = block_lines p.block; exact = p.prints.exact; subjects = p.prints.subjects; hold = p.prints.hold }, p.puts)
 read files bytes false o stored (inr r) done = absurd (not_refused o _ r.refuses done)
 
 -- block.csv is stored, or isn't there

@@ -2,3 +2,4 @@ pub mod Block
 pub mod BlockLaws
 pub mod Evaluate
 pub mod EvaluateLaws
+pub mod OneEvaluation

@@ -4,23 +4,22 @@ ghost use Rattle.std.specs.List.{All};
 ghost use Rattle.mss_model.specs.PartsOf.{parts_of};
 ghost use Rattle.mss_model.specs.TableWords.{option_count, slot_count};
 ghost use Rattle.mss_command.specs.Answers.{Prepares};
+ghost use Rattle.mss_command.specs.Cycles.{cycle_file};
 ghost use Rattle.mss_command.specs.Fetched.{IsWithin, fetched_of, file_limit};
 ghost use Rattle.mss_command.specs.Outcome.{outcome_of};
 ghost use Rattle.mss_command.specs.Questions.{AskLacks, Asks, may_end_asking};
 ghost use Rattle.mss_report.specs.Evaluation.{Prints};
-ghost use Rattle.mss_evaluate.specs.Evaluate.{CycleDefines, EvaluationPromised, LegalDefines, cycle_file, evaluation_may_answer, text_in};
+ghost use Rattle.mss_evaluate.specs.Evaluate.{CycleDefines, EvaluationPromised, evaluation_may_answer, text_in};
 ghost use Rattle.mss_evaluate.specs.EvaluateLaws.{evaluation_keeps};
 
 use mss_command::{
-    Command, Contents, Question, Reply, Status, Stop, ask, cycle_refusal, rule_refusal,
+    Command, Contents, JudgedCycle, Question, Reply, Status, Stop, ask, judge_cycle,
 };
 use mss_desk::Desk;
 use mss_enclose::Kernel;
-use mss_model::{Cycle, CycleFault, Kind, NoMemory, Tables, Text};
+use mss_model::{Cycle, NoMemory, Tables, Text};
 use mss_report::{evaluate_json, evaluate_text};
 use mss_rows::MOST_BYTES;
-use mss_rules::{Legal, Rules};
-use mss_tables::{CycleRefusal, read_cycle};
 use std::alloc::Global;
 
 /// In which form a report is said.
@@ -60,23 +59,15 @@ impl Question for Evaluation {
         tables: &Tables,
         contents: &Contents,
     ) -> Result<Reply, NoMemory> {
-        let bytes = match contents {
-            Contents::Bytes(bytes) => bytes,
-            Contents::TooLong => return cycle_refusal(alloc, &TOO_LONG),
-        };
-        match read_cycle(alloc, tables, bytes) {
-            Ok(cycle) => legal_reply(alloc, kernel, tables, &cycle, self.form),
-            Err(CycleRefusal::Fault(fault)) => cycle_refusal(alloc, &fault),
-            Err(CycleRefusal::NoMemory) => Err(NoMemory),
+        match judge_cycle(alloc, tables, contents)? {
+            JudgedCycle::Legal(cycle) => {
+                let text = text_of(alloc, kernel, tables, &cycle, self.form)?;
+                Ok(Reply::saying(alloc, Status::Done, text))
+            }
+            JudgedCycle::Refused(reply) => Ok(reply),
         }
     }
 }
-
-/// The fault of a file of a cycle that is longer than its limit.
-const TOO_LONG: CycleFault = CycleFault {
-    row: 0,
-    kind: Kind::TooLong,
-};
 
 impl Command for Evaluation {
     ghost Defines = { λ command. Asks (CycleDefines (text_in command.form)) (Some cycle_file) file_limit };
@@ -97,28 +88,6 @@ impl Command for Evaluation {
     }
 
     ghost keeps = { λ command. evaluation_keeps (text_in command.form) };
-}
-
-/// The reply to a cycle under these tables: its evaluation where it is legal, and else the least rule that it breaks.
-fn legal_reply<K: Kernel>(
-    alloc: Global,
-    kernel: &K,
-    tables: &Tables,
-    cycle: &Cycle,
-    form: Form,
-) -> Result<Reply, NoMemory>
-    requires slots { length cycle.now ≡ slot_count (parts_of tables.now) }
-    requires options { All (λ option. option < option_count (parts_of tables.now)) cycle.now }
-    ensures defines { IfOk result (λ reply. LegalDefines (text_in form) (parts_of tables.now) cycle.now (outcome_of reply)) }
-    ensures status { IfOk result (λ reply. IsTrue (evaluation_may_answer reply.status)) }
-{
-    match Legal.dead(tables, cycle.options()) {
-        Some(rule) => rule_refusal(alloc, rule),
-        None => {
-            let text = text_of(alloc, kernel, tables, cycle, form)?;
-            Ok(Reply::saying(alloc, Status::Done, text))
-        }
-    }
 }
 
 /// The text of the evaluation of a cycle, in this form.

@@ -1,0 +1,94 @@
+-- `block`, `evaluate` and `evaluate json` come to one outcome over the same files.
+use Rattle.std.proofs.Common.{◌≡◌, ℕ, ◌<◌, ◌++◌, List, [], ◌∷◌, Option, Some, None, inl, inr, refl, sym, ap, subst, ◌∙◌, arith}
+use Rattle.std.specs.List.{All}
+use Rattle.std.proofs.lemmas.List.Elements.{All-head, All-tail}
+use Rattle.mss_model.specs.declared.parts.TableParts.{TableParts}
+use Rattle.mss_pctl.specs.CensusPeak.{IsCyclePeak, census_high}
+use Rattle.mss_pctl.specs.Peaks.{IsFirstLargest, Place, peak_places}
+use Rattle.mss_pctl.specs.declared.peak.Peak.{Peak}
+use Rattle.mss_tables.specs.BlockFile.{block_fault_in}
+use Rattle.mss_report.specs.BlockText.{block_text_of}
+use Rattle.mss_report.specs.Evaluation.{Prints, report_of}
+use Rattle.mss_report.specs.Faults.{fault_text_of}
+use Rattle.mss_report.specs.Report.{ReportView}
+use Rattle.mss_command.specs.declared.status.Status.{Status}
+use Rattle.mss_command.specs.declared.status.Status.TheVariants as statuses
+use Rattle.mss_command.specs.Fetched.{Fetched, Missing, TooLong, Bytes}
+use Rattle.mss_command.specs.OneCycle.{one_cycle}
+use Rattle.mss_command.specs.OneOutcome.{IsOneAnswer}
+use Rattle.mss_command.specs.Outcome.{Outcome, saying}
+use Rattle.mss_evaluate.specs.Block.{BlockDefines}
+use Rattle.mss_evaluate.specs.Evaluate.{CycleDefines, EvaluatesCycle}
+
+-- ---- the peak is one
+
+same_head : (x y : Place) (xs ys : List Place) → x ∷ xs ≡ y ∷ ys → (x ≡ y) × (xs ≡ ys)
+same_head x y xs ys e = (let head : x ≡ y = cc in head, let tail : xs ≡ ys = cc in tail)
+
+first_place : (value : Place → ℕ) (n : ℕ) (before later after others : List Place) (p q : Place) → before ++ p ∷ after ≡ later ++ q ∷ others
+    → value p ≡ n → value q ≡ n → All (λ x. value x < n) before → All (λ x. value x < n) later → p ≡ q
+first_place value n [] [] after others p q e vp vq low lower = (same_head p q after others e).0
+first_place value n [] (y ∷ later) after others p q e vp vq low lower =
+    let same : p ≡ y = (same_head p y after (later ++ q ∷ others) e).0 in
+    absurd (omega (arith, All-head (λ x. value x < n) y later lower, ap value same, vp))
+first_place value n (x ∷ before) [] after others p q e vp vq low lower =
+    let same : x ≡ q = (same_head x q (before ++ p ∷ after) others e).0 in
+    absurd (omega (arith, All-head (λ x. value x < n) x before low, ap value same, vq))
+first_place value n (x ∷ before) (y ∷ later) after others p q e vp vq low lower =
+    first_place value n before later after others p q (same_head x y (before ++ p ∷ after) (later ++ q ∷ others) e).1 vp vq
+    (All-tail (λ x. value x < n) x before low) (All-tail (λ x. value x < n) y later lower)
+
+same_place : (value : Place → ℕ) (places : List Place) (n : ℕ) (p q : Place) → IsFirstLargest value places n p → IsFirstLargest value places n q → p ≡ q
+same_place value places n p q a b = first_place value n a.before b.before a.after b.after p q (sym a.split ∙ b.split) a.there b.there a.first b.first
+
+abbrev peak_with : ℕ → ℕ → ℕ → ℕ → Peak
+peak_with low high ward day = record { low = low; high = high; ward = ward; day = day }
+
+pub same_peak : (tables : TableParts) (cycle : List ℕ) (p q : Peak) → IsCyclePeak tables cycle p → IsCyclePeak tables cycle q → p ≡ q
+same_peak tables cycle p q a b =
+    let low : p.low ≡ q.low = a.low ∙ sym b.low in
+    let high : p.high ≡ q.high = a.high ∙ sym b.high in
+    let place : record { ward = p.ward; day = p.day } ≡ record { ward = q.ward; day = q.day } =
+    same_place (census_high tables cycle) (peak_places tables) q.high (record { ward = p.ward; day = p.day }) (record { ward = q.ward; day = q.day })
+    (subst (λ n. IsFirstLargest (census_high tables cycle) (peak_places tables) n (record { ward = p.ward; day = p.day })) high a.place) b.place in
+    let ward : p.ward ≡ q.ward = ap (λ (x : Place). x.ward) place in
+    let day : p.day ≡ q.day = ap (λ (x : Place). x.day) place in
+    ap (λ n. peak_with n p.high p.ward p.day) low ∙ ap (λ n. peak_with q.low n p.ward p.day) high ∙ ap (λ n. peak_with q.low q.high n p.day) ward
+    ∙ ap (peak_with q.low q.high q.ward) day
+
+-- ---- and so is the text
+
+same_text : (form : ReportView → List ℕ) (tables : TableParts) (cycle s t : List ℕ) → Prints form tables cycle s → Prints form tables cycle t → s ≡ t
+same_text form tables cycle s t a b =
+    a.exact ∙ ap form (a.of_tables.exact ∙ ap (report_of tables cycle) (same_peak tables cycle a.report.peak b.report.peak a.of_tables.peak b.of_tables.peak) ∙ sym b.of_tables.exact)
+    ∙ sym b.exact
+
+abbrev outcome_with : Status → List (List ℕ × List ℕ) → List ℕ → Outcome
+outcome_with status puts text = record { status = status; puts = puts; text = text }
+
+same_outcome : (o p : Outcome) → o.status ≡ p.status → o.puts ≡ p.puts → o.text ≡ p.text → o ≡ p
+same_outcome o p status puts text =
+    ap (λ s. outcome_with s o.puts o.text) status ∙ ap (λ ps. outcome_with p.status ps o.text) puts ∙ ap (outcome_with p.status p.puts) text
+
+evaluated : (form : ReportView → List ℕ) (tables : TableParts) (cycle : List ℕ) (o p : Outcome) → EvaluatesCycle form tables cycle o → EvaluatesCycle form tables cycle p → o ≡ p
+evaluated form tables cycle o p a b = same_outcome o p (a.status ∙ sym b.status) (a.puts ∙ sym b.puts) (same_text form tables cycle o.text p.text a.prints b.prints)
+
+pub evaluation_is_one : (form : ReportView → List ℕ) → IsOneAnswer (CycleDefines form)
+evaluation_is_one form tables file o p a b = one_cycle (EvaluatesCycle form tables) tables file o p (evaluated form tables) a b
+
+-- ---- and so is that of a block
+
+no_fault : {A : Type 0} (x : Option A) (f : A) → x ≡ None → x ≡ Some f → ⊥
+no_fault x f p q = let both : None ≡ Some f = sym p ∙ q in cc
+
+pub block_is_one : (file : Fetched) (o p : Outcome) → BlockDefines file o → BlockDefines file p → o ≡ p
+block_is_one Missing o p a b = absurd a
+block_is_one TooLong o p a b = a ∙ sym b
+block_is_one (Bytes bytes) o p (inl a) (inl b) =
+    same_outcome o p (a.status ∙ sym b.status) (a.puts ∙ sym b.puts) (a.prints.exact ∙ ap block_text_of (a.means.meaning ∙ sym b.means.meaning) ∙ sym b.prints.exact)
+block_is_one (Bytes bytes) o p (inl a) (inr r) = absurd (no_fault (block_fault_in bytes) r.fault a.means.accepted r.first)
+block_is_one (Bytes bytes) o p (inr r) (inl b) = absurd (no_fault (block_fault_in bytes) r.fault b.means.accepted r.first)
+block_is_one (Bytes bytes) o p (inr r) (inr s) =
+    let first : Some r.fault ≡ Some s.fault = sym r.first ∙ s.first in
+    let same : r.fault ≡ s.fault = cc in
+    r.refuses ∙ ap (λ f. saying statuses.Tables (fault_text_of f)) same ∙ sym s.refuses
