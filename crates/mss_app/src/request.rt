@@ -2,6 +2,7 @@
 ghost use Rattle.std.specs.Prelude.{◌≡◌};
 ghost use Rattle.mss_app.specs.Requests.{generate_request, request_in};
 
+use mss_alike::RuleSet;
 use mss_evaluate::Form;
 use mss_generate::{Generate, generate_of};
 
@@ -12,10 +13,11 @@ pub enum Request {
     Block,
     /// The peak of a cycle, and its census, admissions and discharges ward by ward and day by day.
     Evaluate(Form),
-    /// A legal cycle with a small peak, two numbers that are proved, and the certificate of the lower one.
-    Plan,
-    /// What a certificate proves.
-    Check,
+    /// A legal cycle with a small peak, two numbers that are proved, and the certificate of the lower one, by a search over
+    /// the cycles that the rules admit.
+    Plan(RuleSet),
+    /// What a certificate over the cycles that the rules admit proves.
+    Check(RuleSet),
     /// The tables of a hospital that is drawn from a number.
     Generate(Generate),
 }
@@ -27,10 +29,16 @@ pub(crate) fn request_of(words: &[String]) -> Option<Request>
     match words {
         [word] if word.as_str() == "block" => Some(Request::Block),
         [word] if word.as_str() == "evaluate" => Some(Request::Evaluate(Form::Plain)),
-        [word] if word.as_str() == "plan" => Some(Request::Plan),
-        [word] if word.as_str() == "check" => Some(Request::Check),
+        [word] if word.as_str() == "plan" => Some(Request::Plan(RuleSet::Legal)),
+        [word] if word.as_str() == "check" => Some(Request::Check(RuleSet::Legal)),
         [word, form] if word.as_str() == "evaluate" && form.as_str() == "json" => {
             Some(Request::Evaluate(Form::Json))
+        }
+        [word, form] if word.as_str() == "plan" && form.as_str() == "alike" => {
+            Some(Request::Plan(RuleSet::Canonical))
+        }
+        [word, form] if word.as_str() == "check" && form.as_str() == "alike" => {
+            Some(Request::Check(RuleSet::Canonical))
         }
         [word, number, size] if word.as_str() == "generate" => {
             generate_request(generate_of(number.as_str(), size.as_str()))

@@ -1,6 +1,7 @@
--- What the command `check` comes to, and what it promises.
+-- What the commands `check` and `check alike` come to, and what they promise. A rule that makes a prefix dead tells them
+-- apart.
 use Rattle.std.specs.Prelude.{◌≡◌, ◌⊎◌, ◌≤◌, ℕ, Bool, true, false, List, ◌++◌, Option, None, codes, decimal}
-use Rattle.mss_model.specs.Legality.{IsLegal, broken_rule}
+use Rattle.mss_model.specs.Legality.{IsLegal}
 use Rattle.mss_model.specs.Peak.{peak}
 use Rattle.mss_model.specs.declared.parts.TableParts.{TableParts}
 use Rattle.mss_desk.specs.Desk.{Files, Content}
@@ -33,31 +34,31 @@ certificate_limit = 67108864
 -- ---- what is said
 
 -- the certificate is valid under these tables, and what its end proves of their legal cycles is said
-pub record AcceptsCertificate (tables : TableParts) (certificate : Certificate) (o : Outcome) : Type 0 where
-  pub valid : IsValid broken_rule tables certificate
+pub record AcceptsCertificate (rule : TableParts → List ℕ → Option ℕ) (tables : TableParts) (certificate : Certificate) (o : Outcome) : Type 0 where
+  pub valid : IsValid rule tables certificate
   pub number : Option ℕ
   pub end : certificate.end ≡ end_of number
   pub proves : Proves (IsLegal tables) (peak_at_level tables) (Yes number)
   pub accepts : o ≡ saying statuses.Done (verdict_text_of (Yes number))
 
 -- the certificate isn't valid under these tables, and its first line that fails is said, with the reason
-pub record RefusesCertificate (tables : TableParts) (certificate : Certificate) (o : Outcome) : Type 0 where
-  pub invalid : ¬ IsValid broken_rule tables certificate
+pub record RefusesCertificate (rule : TableParts → List ℕ → Option ℕ) (tables : TableParts) (certificate : Certificate) (o : Outcome) : Type 0 where
+  pub invalid : ¬ IsValid rule tables certificate
   pub line : ℕ
   pub reason : Reason
-  pub first : verdict_of broken_rule tables certificate ≡ No line reason
+  pub first : verdict_of rule tables certificate ≡ No line reason
   pub refuses : o ≡ saying statuses.Certificate (verdict_text_of (No line reason))
 
 -- what is said of a certificate under these tables
-abbrev pub VerdictDefines : TableParts → Certificate → Outcome → Type 0
-VerdictDefines tables certificate o = AcceptsCertificate tables certificate o ⊎ RefusesCertificate tables certificate o
+abbrev pub VerdictDefines : (TableParts → List ℕ → Option ℕ) → TableParts → Certificate → Outcome → Type 0
+VerdictDefines rule tables certificate o = AcceptsCertificate rule tables certificate o ⊎ RefusesCertificate rule tables certificate o
 
 -- the file is the text of a certificate, and what that one gives is said
-pub record ReadsCertificate (tables : TableParts) (bytes : List ℕ) (o : Outcome) : Type 0 where
+pub record ReadsCertificate (rule : TableParts → List ℕ → Option ℕ) (tables : TableParts) (bytes : List ℕ) (o : Outcome) : Type 0 where
   pub certificate : Certificate
   pub short : IsShort certificate
   pub text : bytes ≡ certificate_text certificate
-  pub defines : VerdictDefines tables certificate o
+  pub defines : VerdictDefines rule tables certificate o
 
 -- the file isn't the text of a certificate, and its first fault is said
 pub record RefusesFile (bytes : List ℕ) (o : Outcome) : Type 0 where
@@ -66,10 +67,10 @@ pub record RefusesFile (bytes : List ℕ) (o : Outcome) : Type 0 where
   pub refuses : o ≡ saying statuses.Certificate (cert_fault_text_of fault)
 
 -- what is said under these tables where certificate.txt was read like this
-abbrev pub CheckDefines : TableParts → Fetched → Outcome → Type 0
-CheckDefines tables Missing o = ⊥
-CheckDefines tables TooLong o = o ≡ saying statuses.Certificate (cert_fault_text_of (record { line = 0; kind = kinds.TooLong }))
-CheckDefines tables (Bytes bytes) o = ReadsCertificate tables bytes o ⊎ RefusesFile bytes o
+abbrev pub CheckDefines : (TableParts → List ℕ → Option ℕ) → TableParts → Fetched → Outcome → Type 0
+CheckDefines rule tables Missing o = ⊥
+CheckDefines rule tables TooLong o = o ≡ saying statuses.Certificate (cert_fault_text_of (record { line = 0; kind = kinds.TooLong }))
+CheckDefines rule tables (Bytes bytes) o = ReadsCertificate rule tables bytes o ⊎ RefusesFile bytes o
 
 abbrev pub check_may_answer : Status → Bool
 check_may_answer statuses.Done = true
@@ -107,18 +108,18 @@ CheckPromised status c d = status ≡ statuses.Done
 -- ---- what is accepted
 
 -- the bytes are the text of a certificate that is valid under these tables
-pub record IsValidText (tables : TableParts) (bytes : List ℕ) : Type 0 where
+pub record IsValidText (rule : TableParts → List ℕ → Option ℕ) (tables : TableParts) (bytes : List ℕ) : Type 0 where
   pub certificate : Certificate
   pub short : IsShort certificate
   pub text : bytes ≡ certificate_text certificate
-  pub valid : IsValid broken_rule tables certificate
+  pub valid : IsValid rule tables certificate
 
 -- The ten files are there, within their limit and accepted, and certificate.txt is there, within its own, and is the text
 -- of a certificate that is valid under the tables that they mean.
-pub record StoresValid (files : Files) : Type 0 where
+pub record StoresValid (rule : TableParts → List ℕ → Option ℕ) (files : Files) : Type 0 where
   pub tables : List (List ℕ)
   pub read : gathered files ≡ AllRead tables
   pub accepted : tables_fault tables ≡ None
   pub bytes : List ℕ
   pub stored : fetched certificate_limit files certificate_file ≡ Bytes bytes
-  pub valid : IsValidText (tables_in tables) bytes
+  pub valid : IsValidText rule (tables_in tables) bytes

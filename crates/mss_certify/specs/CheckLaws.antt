@@ -1,4 +1,4 @@
--- What `check` comes to keeps its promise.
+-- What `check` and `check alike` come to keeps their promise.
 use Rattle.std.proofs.Common.{◌≡◌, ℕ, List, [], Option, Some, None, inl, inr, refl, sym, ap, ◌∙◌}
 use Rattle.std.specs.Prelude.{◌⊎◌}
 use Rattle.mss_model.specs.Legality.{IsLegal}
@@ -29,7 +29,7 @@ unfolding named_text
 proved tables (Some number) proves = inl (record { number = number; exact = refl; holds = proves })
 proved tables None proves = inr (record { exact = refl; holds = proves })
 
-module _ (files : Files) (tables : TableParts) (o : Outcome) (stored : StoresTables files tables) (done : o.status ≡ statuses.Done) where
+module _ (rule : TableParts → List ℕ → Option ℕ) (files : Files) (tables : TableParts) (o : Outcome) (stored : StoresTables files tables) (done : o.status ≡ statuses.Done) where
   Said : Type 0
   Said = SaysTrue files o.text × (o.puts ≡ [])
 
@@ -37,7 +37,7 @@ module _ (files : Files) (tables : TableParts) (o : Outcome) (stored : StoresTab
   unfolding Said
   said number proves is = rw is (record { tables = tables; stored = stored; holds = proved tables number proves }, refl)
 
-  pub says_true : (file : Fetched) → CheckDefines tables file o → SaysTrue files o.text × (o.puts ≡ [])
+  pub says_true : (file : Fetched) → CheckDefines rule tables file o → SaysTrue files o.text × (o.puts ≡ [])
   unfolding Said
   says_true Missing known = absurd known
   says_true TooLong known = absurd (not_refused o _ known done)
@@ -47,9 +47,10 @@ module _ (files : Files) (tables : TableParts) (o : Outcome) (stored : StoresTab
     | inr r ↦ absurd (not_refused o _ r.refuses done)
   ]
 
-pub check_keeps : (o : Outcome) (c d : Content) → Asks CheckDefines (Some certificate_file) certificate_limit c.files o → Did o c d → CheckPromised o.status c d
-check_keeps o c d known did done =
-    let p = answered_or_refused CheckDefines c.files o (SaysTrue c.files o.text × (o.puts ≡ [])) (Some certificate_file) certificate_limit known
+pub check_keeps : (rule : TableParts → List ℕ → Option ℕ) (o : Outcome) (c d : Content)
+    → Asks (CheckDefines rule) (Some certificate_file) certificate_limit c.files o → Did o c d → CheckPromised o.status c d
+check_keeps rule o c d known did done =
+    let p = answered_or_refused (CheckDefines rule) c.files o (SaysTrue c.files o.text × (o.puts ≡ [])) (Some certificate_file) certificate_limit known
     (λ refused. absurd (not_tables o refused done))
-    (λ tables stored answer. says_true c.files tables o stored done (wanted (Some certificate_file) certificate_limit c.files) answer) in
+    (λ tables stored answer. says_true rule c.files tables o stored done (wanted (Some certificate_file) certificate_limit c.files) answer) in
     (o.text, did.said, did.files ∙ ap (λ ps. put_all ps c.files) p.1, p.0)

@@ -1,4 +1,4 @@
-//! The command `check`.
+//! The commands `check` and `check alike`.
 #![tactic(auto)]
 
 mod certification;

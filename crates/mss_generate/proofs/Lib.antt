@@ -1,3 +1,2 @@
-mod ReadNumbers
 mod PutSteps
 mod Told

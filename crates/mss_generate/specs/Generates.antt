@@ -1,5 +1,7 @@
 -- What the command `generate` comes to.
-use Rattle.std.specs.Prelude.{◌≡◌, ℕ, Bool, true, false}
+use Rattle.std.specs.Prelude.{◌≡◌, ℕ, Bool, true, false, List}
+use Rattle.mss_model.specs.Legality.{broken_rule}
+use Rattle.mss_model.specs.declared.parts.TableParts.{TableParts}
 use Rattle.mss_tables.specs.TablesMeaning.{tables_in}
 use Rattle.mss_command.specs.declared.status.Status.{Status}
 use Rattle.mss_command.specs.declared.status.Status.TheVariants as statuses
@@ -11,14 +13,18 @@ use Rattle.mss_gen.specs.declared.size.Size.{Size}
 use Rattle.mss_generate.specs.Puts.{table_puts}
 use Rattle.mss_generate.specs.Summary.{generate_text}
 
+-- the text has the numbers of a plan of these tables
+pub record SaysPlan (number : ℕ) (size : Size) (tables : TableParts) (text : List ℕ) : Type 0 where
+  pub plan : Planned
+  pub is : IsPlan broken_rule tables plan
+  pub exact : text ≡ generate_text number size tables (summary_of plan)
+
 -- the generated files are put in the order of their numbers, and the numbers of a plan of the tables that they
 -- mean are said
 pub record Generates (number : ℕ) (size : Size) (o : Outcome) : Type 0 where
-  pub plan : Planned
-  pub is : IsPlan (tables_in (generated number size)) plan
   pub status : o.status ≡ statuses.Done
   pub puts : o.puts ≡ table_puts (generated number size)
-  pub text : o.text ≡ generate_text number size (tables_in (generated number size)) (summary_of plan)
+  pub says : SaysPlan number size (tables_in (generated number size)) o.text
 
 -- it ends in no other status than this, beside faults of writing and want of memory
 abbrev pub generate_may_end : Status → Bool

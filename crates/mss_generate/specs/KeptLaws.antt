@@ -2,20 +2,22 @@
 use Rattle.std.proofs.Common.{◌≡◌, ℕ, List, [], ◌++◌, map, length, get_or, Option, Some, None, refl, sym, ap, ◌∙◌}
 use Rattle.std.proofs.lemmas.List.FromFn.{fill_by_all}
 use Rattle.mss_model.specs.Files.{table_names}
+use Rattle.mss_model.specs.Legality.{broken_rule}
 use Rattle.mss_model.specs.declared.parts.TableParts.{TableParts}
 use Rattle.mss_desk.specs.Desk.{Content}
 use Rattle.mss_tables.specs.TablesMeaning.{tables_in}
 use Rattle.mss_search.specs.Promises.{IsIncumbent}
 use Rattle.mss_search.specs.Searching.{upper_of}
 use Rattle.mss_search.specs.declared.planner.Planned.{Planned}
-use Rattle.mss_plan.specs.Plan.{IsPlan, legal_task, summary_of}
+use Rattle.mss_check.specs.Validity.{lean_task}
+use Rattle.mss_plan.specs.Plan.{IsPlan, summary_of}
 use Rattle.mss_command.specs.Outcome.{Outcome, Did}
 use Rattle.mss_gen.specs.Generated.{files_of, generated, tables_rows}
 use Rattle.mss_gen.specs.declared.size.Size.{Size}
 use Rattle.mss_gen.proofs.DrawFacts.{generated-accepted}
 use Rattle.mss_generate.specs.Generates.{Generates}
 use Rattle.mss_generate.specs.Kept.{AreNumbersOf, Kept}
-use Rattle.mss_generate.specs.PutFacts.{AreApart, apart_tested, other_after, stored_after}
+use Rattle.mss_command.specs.PutFacts.{AreApart, apart_tested, other_after, stored_after}
 use Rattle.mss_generate.specs.Puts.{table_puts}
 
 -- the files are put under the names of the tables
@@ -35,12 +37,12 @@ apart = apart_tested table_names refl
 
 -- where there is an upper number there is a cycle
 cycle-of : (tables : TableParts) (p : Planned) (best : Option (List ℕ)) (upper : Option ℕ) (n : ℕ)
-    → IsIncumbent (legal_task tables) (upper_of tables) p.certificate.tree best upper → upper ≡ Some n → (cycle : List ℕ) × (best ≡ Some cycle)
+    → IsIncumbent (lean_task broken_rule tables) (upper_of tables) p.certificate.tree best upper → upper ≡ Some n → (cycle : List ℕ) × (best ≡ Some cycle)
 cycle-of tables p None None n known e = absurd (cc)
 cycle-of tables p None (Some m) n known e = absurd known
 cycle-of tables p (Some cycle) upper n known e = (cycle, refl)
 
-numbers-of : (tables : TableParts) (p : Planned) → IsPlan tables p → AreNumbersOf tables (summary_of p)
+numbers-of : (tables : TableParts) (p : Planned) → IsPlan broken_rule tables p → AreNumbersOf tables (summary_of p)
 numbers-of tables p is = record {
   upper = λ n e. let best = cycle-of tables p p.best p.upper n is.search.best e in (best.0, is.legal best.0 best.1, is.peaks best.0 n best.1 e);
   lower = is.lower;
@@ -56,7 +58,7 @@ generated_kept number size o c d defined did =
       stored = stored_after o.puts table_names c.files d.files names did.files apart ∙ bytes;
       accepted = generated-accepted number size;
       others = λ name other. other_after o.puts table_names c.files d.files names did.files name other;
-      summary = summary_of defined.plan;
-      said = did.said ∙ ap (λ text. c.said ++ text) defined.text;
-      numbers = numbers-of (tables_in (generated number size)) defined.plan defined.is;
+      summary = summary_of defined.says.plan;
+      said = did.said ∙ ap (λ text. c.said ++ text) defined.says.exact;
+      numbers = numbers-of (tables_in (generated number size)) defined.says.plan defined.says.is;
     }

@@ -4,5 +4,4 @@ pub mod Puts
 pub mod Summary
 pub mod Generates
 pub mod Kept
-pub mod PutFacts
 pub mod KeptLaws

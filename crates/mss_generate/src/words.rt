@@ -1,8 +1,9 @@
 //! The words after `generate`.
 ghost use Rattle.std.specs.Prelude.{◌≡◌};
-ghost use Rattle.mss_generate.specs.Words.{generate_in, is_plain, number_of_word, size_of_word};
+ghost use Rattle.mss_generate.specs.Words.{generate_in, size_of_word};
 
 use crate::generate::Generate;
+use mss_command::number_of;
 use mss_gen::Size;
 
 /// The command with these words after `generate`: a number from 0 to 18,446,744,073,709,551,615 without leading zeros,
@@ -25,27 +26,5 @@ fn size_of(word: &str) -> Option<Size>
         "middle" => Some(Size::Middle),
         "large" => Some(Size::Large),
         _ => None,
-    }
-}
-
-/// The number that a word writes.
-#[tactic(auto, using(crate::proofs::ReadNumbers::read_number, crate::proofs::ReadNumbers::not_plain))]
-fn number_of(word: &str) -> Option<u64>
-    ensures { result ≡ number_of_word word.now }
-{
-    if !is_plain(word.as_bytes()) {
-        return None;
-    }
-    word.parse::<u64>().ok()
-}
-
-/// Whether a word begins with a digit, and with no zero before another byte.
-fn is_plain(word: &[u8]) -> bool
-    ensures { result ≡ is_plain word.now }
-{
-    match word {
-        [] => false,
-        [only] => only.is_ascii_digit(),
-        [first, ..] => first.is_ascii_digit() && *first != b'0',
     }
 }

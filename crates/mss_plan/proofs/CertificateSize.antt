@@ -2,20 +2,14 @@
 use Rattle.std.proofs.Common.{ℕ, ◌+◌, ◌*◌, ◌^◌, ◌<◌, ◌≤◌, List, [], ◌∷◌, ◌++◌, length, arith, length-append}
 use Rattle.std.specs.Prelude.{codes, decimal}
 use Rattle.std.specs.List.{AllByRecursion}
-use Rattle.std.proofs.lemmas.Fmt.{length-decimal-le}
+use Rattle.mss_lines.specs.Fields.{fields, AreShort}
+use Rattle.mss_lines.proofs.FieldSizes.{nine_digits, fields-long}
 use Rattle.mss_cert.specs.declared.certificate.Line.{Line}
 use Rattle.mss_cert.specs.declared.certificate.Line.TheVariants.{Branch, Dead, Full, Closed, OpenAt}
 use Rattle.mss_cert.specs.declared.certificate.End.{End}
 use Rattle.mss_cert.specs.declared.certificate.End.TheVariants.{Lower, NoneLegal}
 use Rattle.mss_cert.specs.declared.certificate.Certificate.{Certificate}
-use Rattle.mss_cert.specs.CertificateText.{AreShort, IsShort, IsShortEnd, IsShortLine, certificate_text, end_text, fields, head_text, line_text, tree_text}
-
-nine : (n : ℕ) → n < 10 ^ 9 → length (decimal n) ≤ 9
-nine n short = length-decimal-le 9 n (omega arith) short (omega arith)
-
-fields-long : (ns : List ℕ) → AreShort ns → length (fields ns) ≤ 10 * length ns
-fields-long [] h = omega arith
-fields-long (n ∷ ns) h = omega (arith, nine n h.0, fields-long ns h.1, length-append (decimal n) (fields ns))
+use Rattle.mss_cert.specs.CertificateText.{IsShort, IsShortEnd, IsShortLine, certificate_text, end_text, head_text, line_text, tree_text}
 
 line-long : (l : Line) → IsShortLine l → length (line_text l) ≤ 46
 line-long (Branch turn) h = omega (arith, fields-long (turn ∷ []) h)
@@ -36,8 +30,8 @@ head-long : (slots options level : ℕ) → AreShort (slots ∷ options ∷ leve
 head-long slots options level h =
     omega (
       arith,
-      nine slots h.0,
-      nine options h.1.0,
+      nine_digits slots h.0,
+      nine_digits options h.1.0,
       fields-long (level ∷ []) h.1.1,
       length-append (decimal slots) (codes " options" ++ (32 ∷ (decimal options ++ (codes " level" ++ fields (level ∷ []))))),
       length-append (decimal options) (codes " level" ++ fields (level ∷ [])),

@@ -1,4 +1,3 @@
-pub mod RuleNumbers
 pub mod CertificateSize
 pub mod NoCycle
 pub mod LegalPlan

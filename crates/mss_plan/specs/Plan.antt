@@ -1,17 +1,15 @@
--- What the command `plan` comes to, and what it promises.
+-- What the commands `plan` and `plan alike` come to, and what they promise. A rule that makes a prefix dead tells them apart;
+-- what is promised of peaks speaks of every legal cycle.
 use Rattle.std.specs.Prelude.{◌≡◌, ◌⊎◌, ◌↔◌, ℕ, ◌+◌, ◌*◌, ◌^◌, ◌≤◌, Bool, true, false, IsTrue, List, [], ◌∷◌, ◌++◌, length, Option, Some, None, codes}
-use Rattle.mss_model.specs.Legality.{IsLegal, broken_rule}
+use Rattle.mss_model.specs.Legality.{IsLegal}
 use Rattle.mss_model.specs.Peak.{peak}
 use Rattle.mss_model.specs.declared.parts.TableParts.{TableParts}
 use Rattle.mss_enclose.specs.Kept.{lean_convolution, lean_low}
 use Rattle.mss_desk.specs.Desk.{Files, Content}
-use Rattle.mss_tables.specs.CycleFile.{cycle_fault, cycle_in}
-use Rattle.mss_tables.specs.CycleText.{cycle_text_of}
 use Rattle.mss_cert.specs.CertificateText.{IsShort, certificate_text}
 use Rattle.mss_cert.specs.declared.certificate.Certificate.{Certificate}
 use Rattle.mss_cert.specs.declared.certificate.End.{End}
 use Rattle.mss_cert.specs.declared.certificate.End.TheVariants.{Lower, NoneLegal}
-use Rattle.mss_check.specs.Tree.{Task}
 use Rattle.mss_check.specs.Validity.{IsValid, lean_task, peak_at_level}
 use Rattle.mss_bounds.specs.PrefixBound.{bound_of}
 use Rattle.mss_search.specs.Plan.{IsFrugal}
@@ -25,6 +23,7 @@ use Rattle.mss_report.specs.ReportText.{report_text}
 use Rattle.mss_report.specs.declared.plan.PlanSummary.{PlanSummary}
 use Rattle.mss_command.specs.declared.status.Status.{Status}
 use Rattle.mss_command.specs.declared.status.Status.TheVariants as statuses
+use Rattle.mss_command.specs.Cycles.{IsTextOf}
 use Rattle.mss_command.specs.Fetched.{Fetched}
 use Rattle.mss_command.specs.Outcome.{Outcome, put_all}
 use Rattle.mss_command.specs.Questions.{StoresTables}
@@ -38,10 +37,6 @@ certificate_file = codes "certificate.txt"
 -- the most bytes of a certificate.txt that the checker reads
 abbrev pub certificate_limit : ℕ
 certificate_limit = 67108864
-
--- the trees of the legal cycles, with the low numbers of full lists, which the checker takes
-abbrev pub legal_task : TableParts → Task
-legal_task tables = lean_task broken_rule tables
 
 -- ---- what the numbers of a plan say
 
@@ -64,15 +59,15 @@ lower_of NoneLegal = None
 
 -- The tree of the certificate is that of the search best first with the tables' budget, and valid; the cycle is the best
 -- of its full lines, and the search is spent where a line is open.
-pub record IsSearch (tables : TableParts) (p : Planned) : Type 0 where
-  pub valid : IsValid broken_rule tables p.certificate
-  pub frugal : IsFrugal (legal_task tables) (bound_of lean_convolution lean_low tables) (upper_of tables) tables.budget p.certificate.tree p.turns
-  pub best : IsIncumbent (legal_task tables) (upper_of tables) p.certificate.tree p.best p.upper
-  pub spent : IsTrue p.spent ↔ HasOpen (legal_task tables) p.certificate.tree
+pub record IsSearch (rule : TableParts → List ℕ → Option ℕ) (tables : TableParts) (p : Planned) : Type 0 where
+  pub valid : IsValid rule tables p.certificate
+  pub frugal : IsFrugal (lean_task rule tables) (bound_of lean_convolution lean_low tables) (upper_of tables) tables.budget p.certificate.tree p.turns
+  pub best : IsIncumbent (lean_task rule tables) (upper_of tables) p.certificate.tree p.best p.upper
+  pub spent : IsTrue p.spent ↔ HasOpen (lean_task rule tables) p.certificate.tree
 
 -- A plan of these tables: what a search comes to, and what it proves of the legal cycles.
-pub record IsPlan (tables : TableParts) (p : Planned) : Type 0 where
-  pub search : IsSearch tables p
+pub record IsPlan (rule : TableParts → List ℕ → Option ℕ) (tables : TableParts) (p : Planned) : Type 0 where
+  pub search : IsSearch rule tables p
   pub short : IsShort p.certificate
   pub within : length (certificate_text p.certificate) ≤ certificate_limit
   pub legal : (cycle : List ℕ) → p.best ≡ Some cycle → IsLegal tables cycle
@@ -85,12 +80,6 @@ abbrev pub summary_of : Planned → PlanSummary
 summary_of p = record { upper = p.upper; lower = lower_of p.certificate.end; turns = p.turns; spent = p.spent }
 
 -- ---- the files of a plan
-
--- the bytes are the text of the cycle, and are read back as it
-pub record IsTextOf (tables : TableParts) (cycle bytes : List ℕ) : Type 0 where
-  pub text : bytes ≡ cycle_text_of tables cycle
-  pub accepted : cycle_fault tables bytes ≡ None
-  pub same : cycle_in tables bytes ≡ cycle
 
 -- the bytes of planned.csv: none where there is no cycle
 abbrev pub IsCycleFile : TableParts → Option (List ℕ) → List ℕ → Type 0
@@ -124,16 +113,16 @@ plan_may_answer statuses.SpentWithout = true
 plan_may_answer _ = false
 
 -- A plan of the tables is put and said: the cycle and the certificate, and then the numbers with the report of the cycle.
-pub record PlansTables (tables : TableParts) (o : Outcome) : Type 0 where
+pub record PlansTables (rule : TableParts → List ℕ → Option ℕ) (tables : TableParts) (o : Outcome) : Type 0 where
   pub plan : Planned
-  pub is : IsPlan tables plan
+  pub is : IsPlan rule tables plan
   pub puts : PutsPlan tables plan o.puts
   pub prints : PrintsPlan tables (summary_of plan) plan.best o.text
   pub status : o.status ≡ plan_status plan.spent plan.upper
 
--- `plan` reads no file beside the tables
-abbrev pub PlanDefines : TableParts → Fetched → Outcome → Type 0
-PlanDefines tables file o = PlansTables tables o
+-- no file is read beside the tables
+abbrev pub PlanDefines : (TableParts → List ℕ → Option ℕ) → TableParts → Fetched → Outcome → Type 0
+PlanDefines rule tables file o = PlansTables rule tables o
 
 -- ---- what it promises
 
@@ -161,7 +150,7 @@ pub record PrintsNoCycle (s : PlanSummary) (planned text : List ℕ) : Type 0 wh
 -- peaks at least at the lower number, and where the search closed, at least at the upper number at a level 2^-30 higher;
 -- without a number no cycle is legal. The certificate is one that the checker reads, and accepts with the lower number. The search is
 -- spent where its tree has an open line, and found no cycle where it has no full line.
-pub record PrintedPlan (before after : Files) (status : Status) (text : List ℕ) : Type 0 where
+pub record PrintedPlan (rule : TableParts → List ℕ → Option ℕ) (before after : Files) (status : Status) (text : List ℕ) : Type 0 where
   pub tables : TableParts
   pub stored : StoresTables before tables
   pub summary : PlanSummary
@@ -173,13 +162,13 @@ pub record PrintedPlan (before after : Files) (status : Status) (text : List ℕ
   pub closed : summary.spent ≡ false → IsLeastOfAll tables summary.upper
   pub short : IsShort certificate
   pub within : length (certificate_text certificate) ≤ certificate_limit
-  pub valid : IsValid broken_rule tables certificate
+  pub valid : IsValid rule tables certificate
   pub proves : lower_of certificate.end ≡ summary.lower
-  pub spent : IsTrue summary.spent ↔ HasOpen (legal_task tables) certificate.tree
-  pub without : (summary.upper ≡ None) ↔ HasNoFull (board_of (legal_task tables) certificate.tree)
+  pub spent : IsTrue summary.spent ↔ HasOpen (lean_task rule tables) certificate.tree
+  pub without : (summary.upper ≡ None) ↔ HasNoFull (board_of (lean_task rule tables) certificate.tree)
   pub ends : status ≡ plan_status summary.spent summary.upper
 
 -- at the statuses of a plan a text with that meaning was said
-abbrev pub PlanPromised : Status → Content → Content → Type 0
-PlanPromised status c d = IsTrue (plan_may_answer status)
-    → (text : List ℕ) × (d.said ≡ c.said ++ text) × PrintedPlan c.files d.files status text
+abbrev pub PlanPromised : (TableParts → List ℕ → Option ℕ) → Status → Content → Content → Type 0
+PlanPromised rule status c d = IsTrue (plan_may_answer status)
+    → (text : List ℕ) × (d.said ≡ c.said ++ text) × PrintedPlan rule c.files d.files status text

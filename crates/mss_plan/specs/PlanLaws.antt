@@ -1,7 +1,8 @@
--- What `plan` comes to keeps its promise.
+-- What `plan` and `plan alike` come to keeps their promise.
 use Rattle.std.proofs.Common.{◌≡◌, ◌++◌, ℕ, false, IsTrue, List, Option, Some, None, ◌⊎◌, inl, inr, refl, ap, ◌∙◌}
 use Rattle.std.specs.Prelude.{◌↔◌}
 use Rattle.mss_model.specs.declared.parts.TableParts.{TableParts}
+use Rattle.mss_check.specs.Validity.{lean_task}
 use Rattle.mss_desk.specs.Desk.{Content}
 use Rattle.mss_search.specs.Promises.{IsIncumbent, board_of}
 use Rattle.mss_search.specs.Searching.{upper_of}
@@ -13,16 +14,16 @@ use Rattle.mss_command.specs.declared.status.Status.TheVariants as statuses
 use Rattle.mss_command.specs.Outcome.{Did, Outcome, put_all}
 use Rattle.mss_command.specs.Questions.{Asks, StoresTables}
 use Rattle.mss_command.specs.QuestionLaws.{answered_or_refused}
-use Rattle.mss_plan.specs.Plan.{IsCycleFile, IsPlan, PlanDefines, PlanPromised, PlansTables, PrintedPlan, PrintsCycle, PrintsNoCycle, legal_task, plan_may_answer, summary_of}
+use Rattle.mss_plan.specs.Plan.{IsCycleFile, IsPlan, PlanDefines, PlanPromised, PlansTables, PrintedPlan, PrintsCycle, PrintsNoCycle, plan_may_answer, summary_of}
 
 -- a refusal of the tables has none of the statuses of a plan
 not_refused : (status : Status) → status ≡ statuses.Tables → IsTrue (plan_may_answer status) → ⊥
 not_refused status e may = let k : plan_may_answer status ≡ false = ap plan_may_answer e in cc
 
-module _ (tables : TableParts) (p : Planned) (plan : IsPlan tables p) where
+module _ (rule : TableParts → List ℕ → Option ℕ) (tables : TableParts) (p : Planned) (plan : IsPlan rule tables p) where
   -- what is printed, by whether there is a best cycle
   printed : (best : Option (List ℕ)) (upper : Option ℕ) (planned text : List ℕ) → p.best ≡ best → p.upper ≡ upper
-      → IsIncumbent (legal_task tables) (upper_of tables) p.certificate.tree best upper → IsCycleFile tables best planned
+      → IsIncumbent (lean_task rule tables) (upper_of tables) p.certificate.tree best upper → IsCycleFile tables best planned
       → PrintsPlan tables (summary_of p) best text → PrintsCycle tables (summary_of p) planned text ⊎ PrintsNoCycle (summary_of p) planned text
   unfolding plan_text_of
   printed None None planned text b u i file prints = inr (record { none = u; file = file; exact = prints })
@@ -41,15 +42,15 @@ module _ (tables : TableParts) (p : Planned) (plan : IsPlan tables p) where
   })
 
   -- there is no upper number exactly where no line is full
-  without : (best : Option (List ℕ)) (upper : Option ℕ) → IsIncumbent (legal_task tables) (upper_of tables) p.certificate.tree best upper
-      → (upper ≡ None) ↔ HasNoFull (board_of (legal_task tables) p.certificate.tree)
+  without : (best : Option (List ℕ)) (upper : Option ℕ) → IsIncumbent (lean_task rule tables) (upper_of tables) p.certificate.tree best upper
+      → (upper ≡ None) ↔ HasNoFull (board_of (lean_task rule tables) p.certificate.tree)
   without None None i = ((λ e. i), (λ none. refl))
   without None (Some n) i = absurd i
   without (Some cycle) None i = absurd i
   without (Some cycle) (Some n) i = ((λ e. absurd (cc)), (λ none. absurd (none cycle i.turn i.number i.ward i.day i.there)))
 
-module _ (o : Outcome) (c d : Content) (did : Did o c d) (tables : TableParts) (stored : StoresTables c.files tables) (plans : PlansTables tables o) where
-  pub keeps : PrintedPlan c.files d.files o.status o.text
+module _ (rule : TableParts → List ℕ → Option ℕ) (o : Outcome) (c d : Content) (did : Did o c d) (tables : TableParts) (stored : StoresTables c.files tables) (plans : PlansTables rule tables o) where
+  pub keeps : PrintedPlan rule c.files d.files o.status o.text
   keeps = record {
     tables = tables;
     stored = stored;
@@ -57,7 +58,7 @@ module _ (o : Outcome) (c d : Content) (did : Did o c d) (tables : TableParts) (
     planned = plans.puts.planned;
     certificate = plans.plan.certificate;
     files = did.files ∙ ap (λ ps. put_all ps c.files) plans.puts.exact;
-    cycle = printed tables plans.plan plans.is plans.plan.best plans.plan.upper plans.puts.planned o.text refl refl plans.is.search.best plans.puts.file plans.prints;
+    cycle = printed rule tables plans.plan plans.is plans.plan.best plans.plan.upper plans.puts.planned o.text refl refl plans.is.search.best plans.puts.file plans.prints;
     lower = plans.is.lower;
     closed = plans.is.closes;
     short = plans.is.short;
@@ -65,12 +66,12 @@ module _ (o : Outcome) (c d : Content) (did : Did o c d) (tables : TableParts) (
     valid = plans.is.search.valid;
     proves = refl;
     spent = plans.is.search.spent;
-    without = without tables plans.plan plans.is plans.plan.best plans.plan.upper plans.is.search.best;
+    without = without rule tables plans.plan plans.is plans.plan.best plans.plan.upper plans.is.search.best;
     ends = plans.status;
   }
 
-pub plan_keeps : (o : Outcome) (c d : Content) → Asks PlanDefines None 0 c.files o → Did o c d → PlanPromised o.status c d
-plan_keeps o c d known did may =
-    answered_or_refused PlanDefines c.files o ((text : List ℕ) × (d.said ≡ c.said ++ text) × PrintedPlan c.files d.files o.status text) None 0 known
+pub plan_keeps : (rule : TableParts → List ℕ → Option ℕ) (o : Outcome) (c d : Content) → Asks (PlanDefines rule) None 0 c.files o → Did o c d → PlanPromised rule o.status c d
+plan_keeps rule o c d known did may =
+    answered_or_refused (PlanDefines rule) c.files o ((text : List ℕ) × (d.said ≡ c.said ++ text) × PrintedPlan rule c.files d.files o.status text) None 0 known
     (λ refused. absurd (not_refused o.status refused may))
-    (λ tables stored plans. (o.text, did.said, keeps o c d did tables stored plans))
+    (λ tables stored plans. (o.text, did.said, keeps rule o c d did tables stored plans))

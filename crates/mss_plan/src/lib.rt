@@ -1,4 +1,5 @@
-//! The command `plan`: the legal cycle with the least peak that a search finds, and the certificate of its lower number.
+//! The commands `plan` and `plan alike`: the legal cycle with the least peak that a search finds, and the certificate of its
+//! lower number.
 #![tactic(auto)]
 
 mod legal_search;

@@ -1,10 +1,12 @@
 //! The files of a plan.
-ghost use Rattle.std.specs.Prelude.{◌≡◌, ◌<◌, ℕ, List, length, map, option_copied, Option, IfOk, IfSome};
+ghost use Rattle.std.specs.Prelude.{◌≡◌, ◌<◌, ℕ, List, length, map, option_copied, Option, Some, IfOk, IfSome};
 ghost use Rattle.std.specs.List.{All};
+ghost use Rattle.mss_model.specs.Legality.{IsLegal};
 ghost use Rattle.mss_model.specs.PartsOf.{parts_of};
 ghost use Rattle.mss_model.specs.TableWords.{option_count, slot_count};
+ghost use Rattle.mss_cert.specs.CertificateText.{IsShort};
 ghost use Rattle.mss_command.specs.Outcome.{put_of};
-ghost use Rattle.mss_plan.specs.Plan.{IsCycleFile, IsPlan, PutsPlan};
+ghost use Rattle.mss_plan.specs.Plan.{IsCycleFile, PutsPlan};
 
 use mss_cert::write;
 use mss_command::Put;
@@ -15,7 +17,8 @@ use std::alloc::Global;
 
 /// The files of a plan in the order in which they are put: the cycle and the certificate.
 pub(crate) fn files(alloc: Global, tables: &Tables, planned: &Planned) -> Result<Vec<Put>, NoMemory>
-    requires { IsPlan (parts_of tables.now) planned.now }
+    requires legal { (cycle : List ℕ) → planned.now.best ≡ Some cycle → IsLegal (parts_of tables.now) cycle }
+    requires short { IsShort planned.now.certificate }
     ensures { IfOk result (λ puts. PutsPlan (parts_of tables.now) planned.now (map put_of puts.items)) }
 {
     let bytes = cycle_file(alloc, tables, planned.best.as_ref())?;
