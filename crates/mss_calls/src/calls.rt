@@ -5,12 +5,15 @@ ghost use Rattle.std.specs.List.{All};
 ghost use Rattle.mss_model.specs.PartsOf.{parts_of};
 ghost use Rattle.mss_model.specs.TableWords.{option_count, slot_count};
 
+mod alike;
 mod census;
 mod certificates;
 mod chances;
+mod counting;
 mod desks;
 mod lists;
 mod naming;
+mod plans;
 mod slots;
 
 use mss_model::{Block, Blocks, Cycle, Names, Numbers, TableParts, Tables};

@@ -1,5 +1,6 @@
 //! Cases as their files say them.
 
+use crate::seam::Program;
 use crate::source::Source;
 use anyhow::{Context, Result, anyhow};
 use serde::Deserialize;
@@ -10,6 +11,7 @@ use std::fs;
 #[derive(Drop, Deserialize)]
 #[serde(deny_unknown_fields)]
 pub struct CaseFile {
+    program: Option<String>,
     words: Option<Vec<String>>,
     set: Option<String>,
     status: Option<u8>,
@@ -28,6 +30,8 @@ pub struct Case {
     /// Whether the case is wrong on purpose, so that it must be told as different.
     #[serde(default)]
     pub wrong: bool,
+    /// The program that is run: `mss`, where nothing is said, or `mss_improve`.
+    program: Option<String>,
     /// The words after the program's name.
     words: Option<Vec<String>>,
     /// The folder of the files at entry.
@@ -64,6 +68,16 @@ pub fn read_cases(rt: &HostRuntime, name: &str) -> Result<CaseFile> {
 }
 
 impl Case {
+    /// The program that is run.
+    pub fn program(&self, file: &CaseFile) -> Result<Program> {
+        match self.program.as_ref().or(file.program.as_ref()) {
+            None => Ok(Program::Mss),
+            Some(name) if name.as_str() == "mss" => Ok(Program::Mss),
+            Some(name) if name.as_str() == "mss_improve" => Ok(Program::MssImprove),
+            Some(name) => Err(anyhow!("{name} is no program")),
+        }
+    }
+
     /// The words after the program's name.
     pub fn words<'a>(&'a self, file: &'a CaseFile) -> Result<&'a [String]> {
         match self.words.as_ref().or(file.words.as_ref()) {

@@ -10,8 +10,8 @@ use std::io::ErrorKind;
 /// Files by their names.
 pub type FileSet = BTreeMap<String, Vec<u8>>;
 
-/// The names of all files that a command reads or puts.
-pub const NAMES: [&str; 14] = [
+/// The names of all files that a command of a program reads or puts.
+pub const NAMES: [&str; 15] = [
     "settings.toml",
     "rooms.csv",
     "specialties.csv",
@@ -26,6 +26,7 @@ pub const NAMES: [&str; 14] = [
     "cycle.csv",
     "planned.csv",
     "certificate.txt",
+    "improved.csv",
 ];
 
 /// The files at entry: those of the folder, without those that are missing, and those of the case's own.

@@ -1,10 +1,17 @@
-//! The call that the cases are about.
+//! The calls that the cases are about.
 
-use mss_app::run;
 use mss_desk::MemoryDesk;
 use mss_enclose::{Kernel, Plain};
+use mss_timetable::Silent;
 use std::alloc::Global;
 use std::cell::Cell;
+
+/// A program, by its top call.
+#[derive(Clone, Copy)]
+pub enum Program {
+    Mss,
+    MssImprove,
+}
 
 /// How a command ended: the number of its status, and how often it called the kernel.
 #[derive(Clone, Copy)]
@@ -27,11 +34,14 @@ impl Kernel for Counting {
 }
 
 /// Runs the command of these words over a desk.
-pub fn end_of(alloc: Global, words: &[String], desk: &mut MemoryDesk) -> End {
+pub fn end_of(alloc: Global, program: Program, words: &[String], desk: &mut MemoryDesk) -> End {
     let kernel = Counting {
         calls: Cell::new(0),
     };
-    let status = run(alloc, words, desk, &kernel);
+    let status = match program {
+        Program::Mss => mss_app::run(alloc, words, desk, &kernel),
+        Program::MssImprove => mss_timetable::run(alloc, words, desk, &kernel, &Silent),
+    };
     End {
         status: status.number(),
         convolutions: kernel.calls.get(),

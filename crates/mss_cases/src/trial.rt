@@ -11,10 +11,11 @@ use std::alloc::{AllocError, Global};
 
 /// Runs a case, and answers how what comes differs from what must come, if it does.
 pub fn difference_of(rt: &HostRuntime, file: &CaseFile, case: &Case) -> Result<Option<Difference>> {
+    let program = case.program(file)?;
     let words = case.words(file)?;
     let status = case.status(file)?;
     let mut desk = desk_of(rt.alloc(), &files_at_entry(rt, file, case)?, &case.fails)?;
-    let ended = end_of(rt.alloc(), words, &mut desk);
+    let ended = end_of(rt.alloc(), program, words, &mut desk);
     match of_status(ended.status, status)
         .or(of_calls(desk.calls(), case.calls(file)))
         .or(of_convolutions(ended.convolutions, case.convolutions))

@@ -1,0 +1,31 @@
+use super::counting::Counting;
+use super::{Given, tables_of};
+use mss_cert::End;
+use mss_enclose::Lean;
+use mss_rules::Legal;
+use mss_search::plan;
+
+/// One day of sixteen rooms, and sixteen blocks of one patient, all of which are asked for.
+const SIXTEEN_ROOMS: Given<'static> = Given {
+    days: 1,
+    rooms: &[
+        "A", "B", "C", "D", "E", "F", "G", "H", "I", "J", "K", "L", "M", "N", "O", "P",
+    ],
+    patients: &[0, 1_000_000],
+    stays: &[1_000_000],
+    low: 7_680,
+    high: 7_680,
+};
+
+#[test]
+fn a_plan_goes_on_from_carried_lists(rt: HostRuntime) {
+    let tables = tables_of(&rt, &SIXTEEN_ROOMS);
+    let kernel = Counting::start();
+    let Ok(planned) = plan::<Lean, Counting, Legal>(rt.alloc(), &tables, &kernel, &Legal) else {
+        panic!(rt; "no memory");
+    };
+    assert_eq!(rt; planned.upper, Some(16));
+    assert_eq!(rt; planned.certificate.end, End::Lower { number: 16 });
+    assert_eq!(rt; planned.turns, 17);
+    assert!(rt; kernel.calls() >= 16 && kernel.calls() <= 64);
+}
