@@ -1,9 +1,10 @@
-// A plain Rust program that does what `mss check` does: the yardstick of its speed. It reads the settings and tables of the
-// current folder without testing them, reads certificate.txt with its first fault, walks over its lines with the same
-// full lists, made anew for each line that has a number, and says the same text with the same status.
+// A plain Rust program that does what `mss check` does, and with the word `alike` what `mss check alike` does: the
+// yardstick of its speed. It reads the settings and tables of the current folder without testing them, reads
+// certificate.txt with its first fault, walks over its lines with the same full lists, made anew for each line that has a
+// number, and says the same text with the same status.
 mod plain;
 use plain::lists::{self, Lists, UNIT, first_reaching};
-use plain::rules::dead;
+use plain::rules::{dead, dead_alike};
 use plain::tables::{Tables, read_tables};
 
 const LIMIT: usize = 67_108_864;
@@ -116,6 +117,7 @@ fn read(bytes: &[u8]) -> Result<Certificate, Fault> {
 struct Walk<'a> {
     tables: &'a Tables,
     lists: Lists,
+    dead: fn(&Tables, &[u8]) -> u8,
     prefix: Vec<u8>,
     value: Vec<u64>,
     raised: Vec<u64>,
@@ -125,7 +127,7 @@ struct Walk<'a> {
 impl Walk<'_> {
     // The low number of the full list of the prefix.
     fn low(&mut self, ward: u32, day: u32) -> u32 {
-        let Walk { tables, lists, prefix, value, raised, scratch } = self;
+        let Walk { tables, lists, prefix, value, raised, scratch, .. } = self;
         value.clear();
         value.push(UNIT);
         for (slot, option) in prefix.iter().enumerate() {
@@ -150,11 +152,11 @@ impl Walk<'_> {
         match line {
             Line::Branch { .. } => (self.prefix.len() >= slots).then_some(2),
             Line::Dead { rule } => {
-                let broken = dead(self.tables, &self.prefix);
+                let broken = (self.dead)(self.tables, &self.prefix);
                 (broken == 0 || u32::from(broken) != rule).then_some(3)
             }
             Line::Full { number, ward, day, .. } => {
-                if self.prefix.len() != slots || dead(self.tables, &self.prefix) != 0 {
+                if self.prefix.len() != slots || (self.dead)(self.tables, &self.prefix) != 0 {
                     return Some(4);
                 }
                 self.number_fault(number, ward, day)
@@ -175,13 +177,13 @@ impl Walk<'_> {
     }
 }
 
-fn verdict(tables: &Tables, certificate: &Certificate) -> Result<Option<u32>, Fault> {
+fn verdict(tables: &Tables, dead: fn(&Tables, &[u8]) -> u8, certificate: &Certificate) -> Result<Option<u32>, Fault> {
     let (slots, options, level) = certificate.head;
     if slots as usize != tables.slots() || options as usize != tables.specialties.len() + 1 || u64::from(level) != tables.level {
         return Err((2, 1));
     }
     let lists = lists::steady_lists(tables);
-    let mut walk = Walk { tables, lists, prefix: vec![], value: vec![], raised: vec![], scratch: vec![] };
+    let mut walk = Walk { tables, lists, dead, prefix: vec![], value: vec![], raised: vec![], scratch: vec![] };
     let (mut complete, mut least) = (false, None::<u32>);
     for (at, line) in certificate.tree.iter().enumerate() {
         if complete {
@@ -211,12 +213,13 @@ fn verdict(tables: &Tables, certificate: &Certificate) -> Result<Option<u32>, Fa
 }
 
 fn main() {
+    let is_alike = std::env::args().nth(1).is_some_and(|word| word == "alike");
     let tables = read_tables();
     let bytes = std::fs::read("certificate.txt").unwrap();
     let certificate = if bytes.len() > LIMIT { Err((0, 1)) } else { read(&bytes) };
     let (status, text) = match certificate {
         Err((line, kind)) => (4, format!("certificate refused: line {line} kind {kind} {}", KINDS[kind - 1])),
-        Ok(certificate) => match verdict(&tables, &certificate) {
+        Ok(certificate) => match verdict(&tables, if is_alike { dead_alike } else { dead }, &certificate) {
             Ok(Some(lower)) => (0, format!("certificate accepted: every legal cycle peaks at least at {lower}")),
             Ok(None) => (0, "certificate accepted: no legal cycle".to_string()),
             Err((line, reason)) => (4, format!("certificate refused: line {line} reason {reason} {}", REASONS[reason - 1])),

@@ -2,7 +2,8 @@
 
 The sizes `small`, `middle` and `large` are those of `mss generate`, formed anew from docs/FORMATS.md, byte for byte. The
 other sizes have the same draws with other counts, and then other minutes: in the `tight` and `full` ones the specialties
-ask for about nine tenths of all minutes, and get at most two blocks more than they ask for.
+ask for about nine tenths of all minutes, and get at most two blocks more than they ask for; in the `alike` ones the
+first rooms suit all specialties.
 """
 import os
 
@@ -24,7 +25,11 @@ SIZES = {
     "full-huge": (28, 16, 24, 8, 2000, True),
     # every specialty alike, whatever the number
     "even": (14, 12, 12, 3, 2000, True),
+    # rooms that suit all specialties: all of them, or four of five
+    "all-alike": (2, 4, 3, 2, 20000, False),
+    "four-alike": (2, 5, 3, 2, 20000, False),
 }
+ALIKE = {"all-alike": 4, "four-alike": 4}
 
 
 class Draws:
@@ -75,7 +80,8 @@ def drawn(number, size):
             rows["needs"].append([name, "Scope", 1])
         if draws(2) == 0:
             rows["barred"].append([name, 1 + draws(days)])
-        rows["unsuited"] += [[name, f"R{room}"] for room in range(2, rooms + 1) if draws(5) == 0]
+        unsuited = [room for room in range(2, rooms + 1) if draws(5) == 0]
+        rows["unsuited"] += [[name, f"R{room}"] for room in unsuited if room > ALIKE.get(size, 0)]
     units = 1 + draws(2)
     if asks:
         blocks = len(open_days(days)) * rooms

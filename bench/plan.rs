@@ -2,13 +2,13 @@
 // current folder without testing them, makes the same search with the same full lists, the same form of convolution, 16
 // carried prefixes and a heap, writes planned.csv and certificate.txt, and says the same text with the same status.
 //
-// Words change the bounds, and nothing else: `empty` makes each bound from the empty prefix, and `orphans` doesn't bring
-// back the lists of a parent that isn't carried any more before its children are bounded. On standard error it says how
-// many bounds it made, and how often they called the convolution.
+// The word `alike` stands for `mss plan alike`. Other words change the bounds, and nothing else: `empty` makes each bound
+// from the empty prefix, and `orphans` doesn't bring back the lists of a parent that isn't carried any more before its
+// children are bounded. On standard error it says how many bounds it made, and how often they called the convolution.
 mod plain;
 use plain::lists::{self, CALLS, Lists, UNIT, first_reaching, peak_of, push_full};
 use plain::report::{report, report_text};
-use plain::rules::dead;
+use plain::rules::{dead, dead_alike};
 use plain::tables::{Tables, cycle_text, read_tables};
 use std::cmp::Reverse;
 use std::collections::BinaryHeap;
@@ -54,6 +54,7 @@ struct Bounder<'a> {
     carried: Vec<Carried>,
     working: Carried,
     how: How,
+    dead: fn(&Tables, &[u8]) -> u8,
     value: Vec<u64>,
     raised: Vec<u64>,
     scratch: Vec<u64>,
@@ -62,12 +63,12 @@ struct Bounder<'a> {
 }
 
 impl<'a> Bounder<'a> {
-    fn make(tables: &'a Tables, how: How) -> Bounder<'a> {
+    fn make(tables: &'a Tables, how: How, dead: fn(&Tables, &[u8]) -> u8) -> Bounder<'a> {
         let watched = (1..=tables.wards.len()).filter(|ward| tables.watched[*ward]);
         let spots: Vec<_> = watched.flat_map(|ward| (1..=tables.days).map(move |day| (ward, day))).collect();
         let empty = Carried { prefix: vec![], lists: vec![vec![UNIT]; spots.len()] };
         let lists = lists::steady_lists(tables);
-        Bounder { tables, lists, spots, carried: vec![empty.clone(); PLACES], working: empty, how, value: vec![], raised: vec![], scratch: vec![], bounds: 0, calls: 0 }
+        Bounder { tables, lists, spots, carried: vec![empty.clone(); PLACES], working: empty, how, dead, value: vec![], raised: vec![], scratch: vec![], bounds: 0, calls: 0 }
     }
 
     fn longest(&self, prefix: &[u8]) -> usize {
@@ -133,7 +134,7 @@ impl<'a> Bounder<'a> {
     }
 
     fn line(&mut self, prefix: &[u8], parent: &[u8]) -> Line {
-        let rule = dead(self.tables, prefix);
+        let rule = (self.dead)(self.tables, prefix);
         if rule != 0 {
             return Line::Dead { rule: u32::from(rule) };
         }
@@ -259,13 +260,11 @@ fn shown(number: Option<u32>) -> String {
 }
 
 fn main() {
-    let how = match std::env::args().nth(1).as_deref() {
-        Some("empty") => How::Empty,
-        Some("orphans") => How::Orphans,
-        _ => How::Carried,
-    };
+    let words: Vec<String> = std::env::args().skip(1).collect();
+    let has = |word: &str| words.iter().any(|it| it == word);
+    let how = if has("empty") { How::Empty } else if has("orphans") { How::Orphans } else { How::Carried };
     let tables = read_tables();
-    let mut bounder = Bounder::make(&tables, how);
+    let mut bounder = Bounder::make(&tables, how, if has("alike") { dead_alike } else { dead });
     let mut search = Search::start(&mut bounder);
     let (mut value, mut scratch) = (vec![], vec![]);
     while search.turns < tables.budget && !search.queue.is_empty() {

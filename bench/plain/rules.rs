@@ -1,6 +1,26 @@
 // The rules of legal cycles: the least rule that a prefix breaks, or 0.
 use super::tables::Tables;
 
+// The nine rules of canonical cycles: 9 where of two alike slots the earlier one has the greater option.
+pub fn dead_alike(t: &Tables, prefix: &[u8]) -> u8 {
+    match dead(t, prefix) {
+        0 if breaks_order(t, prefix) => 9,
+        rule => rule,
+    }
+}
+
+fn breaks_order(t: &Tables, prefix: &[u8]) -> bool {
+    let rooms = t.rooms.len();
+    (0..prefix.len()).any(|later| (later - later % rooms..later).any(|earlier| prefix[later] < prefix[earlier] && alike(t, earlier, later)))
+}
+
+// Whether two slots of one day have the same minutes, the same fixed option or none, and rooms that suit the same.
+fn alike(t: &Tables, s: usize, u: usize) -> bool {
+    let rooms = t.rooms.len();
+    let suited = |room: usize| (0..t.specialties.len()).map(move |j| t.unsuited[j * rooms + room]);
+    t.minutes[s] == t.minutes[u] && t.fixed[s] == t.fixed[u] && suited(s % rooms).eq(suited(u % rooms))
+}
+
 pub fn dead(t: &Tables, prefix: &[u8]) -> u8 {
     let (rooms, count, kinds) = (t.rooms.len(), t.specialties.len(), t.units.len());
     let (mut misplaced, mut unsuited, mut barred) = (false, false, false);

@@ -1,8 +1,8 @@
-// The same questions as program.txt asks, of a plain Rust body of the same form. With a second word it only tests the
-// options, as both do before they ask: what that takes belongs to neither body.
+// The same questions as program.txt asks, of a plain Rust body of the same form, with the same words. With the word `none`
+// it only tests the options, as both do before they ask: what that takes belongs to neither body.
 #[path = "../plain/mod.rs"]
 mod plain;
-use plain::{rules::dead, tables::Tables};
+use plain::{rules::{dead, dead_alike}, tables::Tables};
 
 const DAYS: usize = 14;
 const ROOMS: usize = 12;
@@ -25,7 +25,7 @@ fn either(seed: u64, count: usize, one: u32, other: u32) -> Vec<u32> {
     }).collect()
 }
 
-fn tables(seed: u64) -> Tables {
+fn tables(seed: u64, apart: bool) -> Tables {
     let mut word = seed;
     let mut minutes = vec![];
     for day in 0..DAYS {
@@ -49,7 +49,7 @@ fn tables(seed: u64) -> Tables {
         stays: vec![],
         units: either(seed, KINDS, 3, 4),
         needs: (0..SPECIALTIES * KINDS).map(|at| u32::from((at / KINDS + first) % 4 == at % KINDS)).collect(),
-        unsuited: vec![false; SPECIALTIES * ROOMS],
+        unsuited: (0..SPECIALTIES * ROOMS).map(|at| apart && at / ROOMS == at % ROOMS).collect(),
         barred: vec![false; SPECIALTIES * DAYS],
         fixed: vec![0; DAYS * ROOMS],
         level: 900_000,
@@ -60,17 +60,20 @@ fn tables(seed: u64) -> Tables {
 }
 
 #[inline(never)]
-fn rule(tables: &Tables, prefix: &[u8], asks: bool) -> u64 {
+fn rule(tables: &Tables, prefix: &[u8], dead: fn(&Tables, &[u8]) -> u8) -> u64 {
     if prefix.len() > tables.slots() || !prefix.iter().all(|option| *option as usize <= SPECIALTIES) {
         return 100;
     }
-    if asks { u64::from(dead(tables, prefix)) } else { 0 }
+    u64::from(dead(tables, prefix))
 }
 
 fn main() {
     let words: Vec<String> = std::env::args().skip(1).collect();
     let seed = words[0].bytes().fold(0u64, |seed, byte| seed.wrapping_mul(10).wrapping_add(u64::from(byte)));
-    let (tables, asks) = (tables(seed), words.len() == 1);
+    let has = |word: &str| words.iter().any(|it| it == word);
+    let apart = has("apart");
+    let dead = if has("none") { |_: &Tables, _: &[u8]| 0 } else if has("alike") { dead_alike } else { dead };
+    let tables = tables(seed, apart);
     let mut all = 0u64;
     for _ in 0..100 {
         let (mut sum, mut word, mut prefix) = (0u64, seed, vec![]);
@@ -80,10 +83,11 @@ fn main() {
             }
             for option in 0..=SPECIALTIES as u8 {
                 prefix.push(option);
-                sum = sum.wrapping_mul(3).wrapping_add(rule(&tables, &prefix, asks));
+                sum = sum.wrapping_mul(3).wrapping_add(rule(&tables, &prefix, dead));
                 prefix.pop();
             }
-            prefix.push(if (slot / ROOMS) % 7 < 5 { ((slot + below(word, 12)) % 12 + 1) as u8 } else { 0 });
+            let taken = if apart { 12 - slot % ROOMS } else { (slot + below(word, 12)) % 12 + 1 };
+            prefix.push(if (slot / ROOMS) % 7 < 5 { taken as u8 } else { 0 });
         }
         all = all.wrapping_add(sum);
     }
