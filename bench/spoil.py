@@ -41,11 +41,16 @@ def is_number(cell):
     return cell.isdigit() and len(cell) < 30
 
 
-def change_cell(content, draws):
-    """Another cell in a record."""
+def any_record(content, draws):
+    """All lines, the place of one of them, and its cells."""
     lines = lines_of(content)
     at = draws(len(lines))
-    cells = lines[at].split(b",")
+    return lines, at, lines[at].split(b",")
+
+
+def change_cell(content, draws):
+    """Another cell in a record."""
+    lines, at, cells = any_record(content, draws)
     cells[draws(len(cells))] = pick(draws, CELLS)
     lines[at] = b",".join(cells)
     return b"\n".join(lines)
@@ -53,9 +58,7 @@ def change_cell(content, draws):
 
 def change_number(content, draws):
     """A number that is a little more or less."""
-    lines = lines_of(content)
-    at = draws(len(lines))
-    cells = lines[at].split(b",")
+    lines, at, cells = any_record(content, draws)
     numbers = [place for place, cell in enumerate(cells) if is_number(cell)]
     if not numbers:
         return content
@@ -67,9 +70,7 @@ def change_number(content, draws):
 
 def change_columns(content, draws):
     """A field more or fewer in a record."""
-    lines = lines_of(content)
-    at = draws(len(lines))
-    cells = lines[at].split(b",")
+    lines, at, cells = any_record(content, draws)
     if draws(2):
         cells.insert(draws(len(cells) + 1), pick(draws, CELLS))
     else:

@@ -342,6 +342,14 @@ def _scaled(chances: list[int]) -> list[int]:
     return parts
 
 
+def _percent(
+    fault: TableFault, records: list[Record], chances: list[int], where: str, rule: str, here: str
+) -> Explanation:
+    """Chances that were written in percent."""
+    change = _rewritten(fault, records, [it * 10_000 for it in chances])
+    return Explanation(where, rule, f"{here}: percent?", "10000 parts are one percent", change)
+
+
 def chance_sum(fault: TableFault) -> Explanation:
     owner, records = _owner(fault, BLOCK_WORDS[0])
     chances = [int(it.fields[2]) for it in records]
@@ -357,13 +365,7 @@ def chance_sum(fault: TableFault) -> Explanation:
     if total == PARTS:
         raise Unlike
     if total == 100:
-        return Explanation(
-            where,
-            rule,
-            f"{here}: percent?",
-            "10000 parts are one percent",
-            _rewritten(fault, records, [it * 10_000 for it in chances]),
-        )
+        return _percent(fault, records, chances, where, rule, here)
     largest = max(records, key=lambda it: int(it.fields[2]))
     value, missing = int(largest.fields[2]) + PARTS - total, PARTS - total
     mend = f"{'add' if missing > 0 else 'take'} {abs(missing)} {'to' if missing > 0 else 'from'} some of them"
@@ -393,13 +395,7 @@ def stay_end(fault: TableFault) -> Explanation:
         )
         return Explanation(where, rule, here, mend, _rewritten(fault, records, meant))
     if chances[-1] == 100 and max(chances) == 100:
-        return Explanation(
-            where,
-            rule,
-            f"{here}: percent?",
-            "10000 parts are one percent",
-            _rewritten(fault, records, [it * 10_000 for it in chances]),
-        )
+        return _percent(fault, records, chances, where, rule, here)
     mend = "raise the last one to 1000000, or add the ages that are missing"
     return Explanation(where, rule, here, mend, write(fault.file, records[-1], [*records[-1].fields[:2], str(PARTS)]))
 
