@@ -1,5 +1,5 @@
 -- The generated files as a whole.
-use Rattle.std.proofs.Common.{◌≡◌, ◌≤◌, ◌+◌, ◌∷◌, ℕ, List, [], length, Option, None, true, refl, ap, arith, ◌∙◌, inl, inr, decimal, codes, get_or}
+use Rattle.std.proofs.Common.{◌≡◌, ◌≤◌, ◌+◌, ◌∷◌, ℕ, List, [], length, None, Ok, true, refl, ap, arith, inl, inr, decimal, codes, get_or}
 use Rattle.std.specs.Prelude.{⊤}
 use Rattle.std.specs.Fmt.{digits}
 use Rattle.std.specs.List.{list_all}
@@ -9,20 +9,15 @@ use Rattle.csv.specs.Writing.{fields_text}
 use Rattle.mss_rows.specs.Records.{records_in}
 use Rattle.mss_rows.specs.Written.{text_of}
 use Rattle.mss_rows.proofs.WrittenFacts.{records-back}
-use Rattle.mss_tables.specs.Barred.{barred_file_fault, barred_header}
-use Rattle.mss_tables.specs.Blocks.{blocks_fault}
-use Rattle.mss_model.specs.declared.faults.TableFault.{TableFault}
-use Rattle.mss_tables.specs.FileFaults.{first_fault}
-use Rattle.mss_tables.specs.Equipment.{equipment_file_fault, equipment_header}
-use Rattle.mss_tables.specs.Needs.{needs_fault, needs_header}
-use Rattle.mss_tables.specs.Options.{fixed_fault, options_header}
-use Rattle.mss_tables.specs.Patients.{patients_fault, patients_header}
-use Rattle.mss_tables.specs.Rooms.{rooms_fault, rooms_header}
-use Rattle.mss_tables.specs.SpecialtyFile.{specialties_fault, specialties_header}
-use Rattle.mss_tables.specs.Stays.{stays_fault, stays_header}
-use Rattle.mss_tables.specs.TablesMeaning.{AreWithin, all_of, files_fault, hospital_fault, kinds_in, restrictions_fault, rooms_in, rows_of, specialties_in, tables_fault, wards_in}
-use Rattle.mss_tables.specs.Unsuited.{unsuited_file_fault, unsuited_header}
-use Rattle.mss_tables.specs.Watch.{watch_fault}
+use Rattle.mss_tables.specs.Blocks.{blocks_at}
+use Rattle.mss_tables.specs.Equipment.{equipment_at, equipment_header}
+use Rattle.mss_tables.specs.Patients.{patients_at, patients_header}
+use Rattle.mss_tables.specs.Restrictions.{barred_at, barred_header, fixed_at, needs_at, needs_header, options_header, restrictions_at, unsuited_at, unsuited_header}
+use Rattle.mss_tables.specs.Rooms.{rooms_at, rooms_header}
+use Rattle.mss_tables.specs.SpecialtyFile.{specialties_at, specialties_header}
+use Rattle.mss_tables.specs.Stays.{stays_at, stays_header}
+use Rattle.mss_tables.specs.TablesMeaning.{AreWithin, all_of, hospital_at, settings_at, tables_at, tables_fault}
+use Rattle.mss_tables.specs.Watch.{watch_at, watch_fault}
 use Rattle.mss_settings.specs.Meaning.{settings_fault, settings_in}
 use Rattle.mss_settings.specs.declared.settings.Settings.{Settings}
 use Rattle.mss_gen.specs.Generated.{files_of, tables_rows}
@@ -37,12 +32,13 @@ use Rattle.mss_gen.proofs.Accepted.{barred-good, equipment-good, fixed-good, nee
 use Rattle.mss_gen.proofs.BySpecialty.{Each}
 use Rattle.mss_gen.proofs.NamedFacts.{names}
 use Rattle.mss_gen.proofs.PlacesFacts.{kinds}
-use Rattle.mss_gen.proofs.RoomsFacts.{rooms-good, rooms-named}
+use Rattle.mss_gen.proofs.Read.{HasNoFault, IsRead}
+use Rattle.mss_gen.proofs.RoomsFacts.{rooms-good}
 use Rattle.mss_gen.proofs.SettingsFacts.{settings-good, settings-read}
 use Rattle.mss_gen.proofs.ShortRows.{count-by, is_short, read-back-same, short-by, short-number, text-length}
 use Rattle.mss_gen.proofs.ShortTables.{barred-count, barred-short, needs-count, needs-short, patients-short, rooms-count, rooms-short, specialty-short, stays-count, stays-short, unsuited-count, unsuited-short}
 use Rattle.mss_gen.proofs.Sound.{IsSound}
-use Rattle.mss_gen.proofs.SpecialtiesFacts.{IsFewWards, specialties-named, wards-named}
+use Rattle.mss_gen.proofs.SpecialtiesFacts.{IsFewWards}
 
 -- what is drawn for tables of a size
 pub record AreDrawn (shape : Shape) (all : List Specialty) (units : ℕ) : Type 0 where
@@ -68,33 +64,47 @@ little size.Large = record { days = omega arith; rooms = omega arith; some = ome
 back : (rows : List (List (List ℕ))) → list_all is_short rows ≡ true → strip_bom (text_of rows) ≡ text_of rows → records_in (text_of rows) ≡ rows
 back rows short plain = records-back rows plain (read-back-same rows short)
 
--- the tests of the tables, one by one
-pub record ArePassed (s : Settings) (files specialties rooms wards equipment : List (List ℕ)) : Type 0 where
-  pub rooms_good : rooms_fault s.days (all_of files 1) ≡ None
-  pub specialties_pass : specialties_fault (all_of files 2) ≡ None
-  pub patients_good : patients_fault specialties (all_of files 3) ≡ None
-  pub stays_good : stays_fault specialties (all_of files 4) ≡ None
-  pub equipment_good : equipment_file_fault (all_of files 5) ≡ None
-  pub needs_good : needs_fault specialties equipment (all_of files 6) ≡ None
-  pub unsuited_good : unsuited_file_fault specialties rooms (all_of files 7) ≡ None
-  pub fixed_good : fixed_fault s.days rooms specialties (all_of files 8) ≡ None
-  pub barred_good : barred_file_fault specialties s.days (all_of files 9) ≡ None
+-- the readings of the tables, one by one
+pub record AreRead (s : Settings) (files specialties rooms wards equipment : List (List ℕ)) : Type 0 where
+  pub rooms_read : IsRead (rooms_at s.days (all_of files 1)) (λ m. m.names) rooms
+  pub specialties_read : IsRead {X = List (List ℕ) × List (List ℕ)} (specialties_at (all_of files 2)) (λ m. (m.names, m.wards)) (specialties, wards)
+  pub patients_read : HasNoFault (patients_at specialties (all_of files 3))
+  pub stays_read : HasNoFault (stays_at specialties (all_of files 4))
+  pub equipment_read : IsRead (equipment_at (all_of files 5)) (λ m. m.names) equipment
+  pub needs_read : HasNoFault (needs_at specialties equipment (all_of files 6))
+  pub unsuited_read : HasNoFault (unsuited_at specialties rooms (all_of files 7))
+  pub fixed_read : HasNoFault (fixed_at s.days rooms specialties (all_of files 8))
+  pub barred_read : HasNoFault (barred_at specialties s.days (all_of files 9))
   pub watch_good : watch_fault wards s.watch ≡ None
 
-files-passed : (s : Settings) (files : List (List ℕ)) → ArePassed s files (specialties_in files) (rooms_in files) (wards_in files) (kinds_in files) → files_fault s files ≡ None
-unfolding files_fault hospital_fault restrictions_fault blocks_fault
-files-passed s files p =
-    rw (p.rooms_good, p.specialties_pass, p.patients_good, p.stays_good, p.equipment_good, p.needs_good, p.unsuited_good, p.fixed_good, p.barred_good, p.watch_good) refl
+settings-are-read : (bytes : List ℕ) (s : Settings) → settings_fault bytes ≡ None → settings_in bytes ≡ s → settings_at bytes ≡ Ok s
+unfolding settings_at
+settings-are-read bytes s none is = rw none (ap (λ (t : Settings). Ok t) is)
 
-two-none : (a b : Option TableFault) → a ≡ None → b ≡ None → first_fault (a ∷ b ∷ []) ≡ None
-two-none a b first second = rw (first, second) refl
-
-passed : (s : Settings) (files : List (List ℕ)) → settings_fault (get_or files 0 []) ≡ None → settings_in (get_or files 0 []) ≡ s
-    → ArePassed s files (specialties_in files) (rooms_in files) (wards_in files) (kinds_in files) → tables_fault files ≡ None
-unfolding tables_fault
-passed s files settings read p =
-    two-none (settings_fault (get_or files 0 [])) (files_fault (settings_in (get_or files 0 [])) files) settings
-    (ap (λ (t : Settings). files_fault t files) read ∙ files-passed s files p)
+-- files whose tables are read are accepted
+passed : (s : Settings) (files specialties rooms wards equipment : List (List ℕ)) → settings_fault (get_or files 0 []) ≡ None → settings_in (get_or files 0 []) ≡ s
+    → AreRead s files specialties rooms wards equipment → tables_fault files ≡ None
+unfolding tables_at hospital_at blocks_at restrictions_at watch_at
+passed s files specialties rooms wards equipment settings read p =
+    let specialty_names : p.specialties_read.meaning.names ≡ specialties = ap (λ (m : List (List ℕ) × List (List ℕ)). m.0) p.specialties_read.seen_so in
+    let ward_names : p.specialties_read.meaning.wards ≡ wards = ap (λ (m : List (List ℕ) × List (List ℕ)). m.1) p.specialties_read.seen_so in
+    rw (
+      settings-are-read (get_or files 0 []) s settings read,
+      p.rooms_read.is,
+      p.specialties_read.is,
+      specialty_names,
+      p.patients_read.is,
+      p.stays_read.is,
+      p.equipment_read.is,
+      p.rooms_read.seen_so,
+      p.equipment_read.seen_so,
+      p.needs_read.is,
+      p.unsuited_read.is,
+      p.fixed_read.is,
+      p.barred_read.is,
+      ward_names,
+      p.watch_good,
+    ) refl
 
 -- the records of the files, one by one
 pub record AreRecords (files : List (List ℕ)) (shape : Shape) (all : List Specialty) (units : ℕ) : Type 0 where
@@ -108,27 +118,6 @@ pub record AreRecords (files : List (List ℕ)) (shape : Shape) (all : List Spec
   pub fixed_are : records_in (get_or files 8 []) ≡ options_header ∷ []
   pub barred_are : records_in (get_or files 9 []) ≡ barred_header ∷ by_specialty barred_rows 1 all
 
--- the names that the records give
-record AreNamed (files specialties rooms wards equipment : List (List ℕ)) : Type 0 where
-  specialty_names : specialties_in files ≡ specialties
-  room_names : rooms_in files ≡ rooms
-  ward_names : wards_in files ≡ wards
-  kind_names : kinds_in files ≡ equipment
-
-named-so : (size : Size) (files : List (List ℕ)) (all : List Specialty) (units : ℕ) → AreDrawn (shape_of size) all units → AreRecords files (shape_of size) all units
-    → AreNamed files (names 83 (length all)) (names 82 (shape_of size).rooms) (names 87 (shape_of size).wards) kinds
-unfolding rooms_in specialties_in wards_in kinds_in rows_of
-named-so size files all units drawn are =
-    let limits = little size in
-    let few : length all ≤ 8 = let count = drawn.count in let most = limits.few in omega arith in
-    let turns : (shape_of size).wards ≤ length all = let count = drawn.count in let most = limits.turns in omega arith in
-    record {
-      specialty_names = rw are.specialties_are (specialties-named (shape_of size).days (shape_of size).rooms (shape_of size).wards all limits.wards few drawn.each);
-      room_names = rw are.rooms_are (rooms-named size);
-      ward_names = rw are.specialties_are (wards-named (shape_of size).days (shape_of size).rooms (shape_of size).wards all limits.wards few drawn.each turns);
-      kind_names = rw are.equipment_are refl;
-    }
-
 -- the settings have the days of the shape, and watch all its wards
 watched : (size : Size) → ((settings_of size).days ≡ (shape_of size).days) × (watch_fault (names 87 (shape_of size).wards) (settings_of size).watch ≡ None)
 unfolding watch_fault digits
@@ -136,26 +125,28 @@ watched size.Small = (refl, refl)
 watched size.Middle = (refl, refl)
 watched size.Large = (refl, refl)
 
-tests-pass : (size : Size) (files : List (List ℕ)) (all : List Specialty) (units : ℕ) → AreDrawn (shape_of size) all units → AreRecords files (shape_of size) all units
-    → ArePassed (settings_of size) files (names 83 (length all)) (names 82 (shape_of size).rooms) (names 87 (shape_of size).wards) kinds
+all-read : (size : Size) (files : List (List ℕ)) (all : List Specialty) (units : ℕ) → AreDrawn (shape_of size) all units → AreRecords files (shape_of size) all units
+    → AreRead (settings_of size) files (names 83 (length all)) (names 82 (shape_of size).rooms) (names 87 (shape_of size).wards) kinds
 unfolding all_of
-tests-pass size files all units drawn are =
+all-read size files all units drawn are =
     let limits = little size in
     let few : length all ≤ 8 = let count = drawn.count in let most = limits.few in omega arith in
     let some : 1 ≤ length all = let count = drawn.count in let least = limits.some in omega arith in
+    let turns : (shape_of size).wards ≤ length all = let count = drawn.count in let most = limits.turns in omega arith in
     let days = (shape_of size).days in
     let rooms = (shape_of size).rooms in
+    let wards = (shape_of size).wards in
     let same = (watched size).0 in
     record {
-      rooms_good = rw (same, are.rooms_are) (rooms-good size);
-      specialties_pass = rw are.specialties_are (specialties-good days rooms (shape_of size).wards all limits.wards some few drawn.each);
-      patients_good = rw are.patients_are (patients-good days rooms all few drawn.each);
-      stays_good = rw are.stays_are (stays-good days rooms all few drawn.each);
-      equipment_good = rw are.equipment_are (equipment-good units drawn.units_few);
-      needs_good = rw are.needs_are (needs-good days rooms all few drawn.each);
-      unsuited_good = rw are.unsuited_are (unsuited-good days rooms all few limits.rooms drawn.each);
-      fixed_good = rw are.fixed_are (fixed-good (settings_of size).days (names 82 rooms) (names 83 (length all)));
-      barred_good = rw (same, are.barred_are) (barred-good days rooms all few limits.days drawn.each);
+      rooms_read = rw (same, are.rooms_are) (rooms-good size);
+      specialties_read = rw are.specialties_are (specialties-good days rooms wards all limits.wards some few turns drawn.each);
+      patients_read = rw are.patients_are (patients-good days rooms all few drawn.each);
+      stays_read = rw are.stays_are (stays-good days rooms all few drawn.each);
+      equipment_read = rw are.equipment_are (equipment-good units drawn.units_few);
+      needs_read = rw are.needs_are (needs-good days rooms all few drawn.each);
+      unsuited_read = rw are.unsuited_are (unsuited-good days rooms all few limits.rooms drawn.each);
+      fixed_read = rw are.fixed_are (fixed-good (settings_of size).days (names 82 rooms) (names 83 (length all)));
+      barred_read = rw (same, are.barred_are) (barred-good days rooms all few limits.days drawn.each);
       watch_good = (watched size).1;
     }
 
@@ -215,11 +206,9 @@ settings-first size all units = refl
 pub files-accepted : (size : Size) (all : List Specialty) (units : ℕ) → AreDrawn (shape_of size) all units → tables_fault (files_of size all units) ≡ None
 files-accepted size all units drawn =
     let files = files_of size all units in
-    let are = records-are size all units drawn in
-    let named = named-so size files all units drawn are in
     let first = settings-first size all units in
-    passed (settings_of size) files (rw first (settings-good size)) (rw first (settings-read size))
-    (rw (named.specialty_names, named.room_names, named.ward_names, named.kind_names) (tests-pass size files all units drawn are))
+    passed (settings_of size) files (names 83 (length all)) (names 82 (shape_of size).rooms) (names 87 (shape_of size).wards) kinds
+    (rw first (settings-good size)) (rw first (settings-read size)) (all-read size files all units drawn (records-are size all units drawn))
 
 -- the lengths of the files
 within : (rows : List (List (List ℕ))) → list_all is_short rows ≡ true → length rows ≤ 1000 → length (text_of rows) ≤ 4194304

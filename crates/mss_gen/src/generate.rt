@@ -9,7 +9,7 @@ use crate::draws::Draws;
 use crate::size::Size;
 use crate::specialty::{Specialty, draw_specialties};
 use crate::tables::{
-    barred_text, equipment_text, fixed_text, needs_text, patients_text, rooms_text, stays_text,
+    barred_text, equipment_text, header_text, needs_text, patients_text, rooms_text, stays_text,
     targets_text, unsuited_text,
 };
 use mss_model::{
@@ -43,7 +43,10 @@ fn files_of(
     files.set(EQUIPMENT_FILE, equipment_text(alloc, units)?);
     files.set(NEEDS_FILE, needs_text(alloc, specialties)?);
     files.set(UNSUITED_FILE, unsuited_text(alloc, specialties)?);
-    files.set(FIXED_FILE, fixed_text(alloc)?);
+    files.set(
+        FIXED_FILE,
+        header_text(alloc, &[b"day", b"room", b"specialty"])?,
+    );
     files.set(BARRED_FILE, barred_text(alloc, specialties)?);
     Ok(files)
 }

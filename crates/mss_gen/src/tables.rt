@@ -4,15 +4,12 @@ ghost use Rattle.std.specs.List.{All};
 ghost use Rattle.mss_gen.specs.Modest.{IsModest};
 ghost use Rattle.mss_gen.specs.Rows.{barred_rows, by_specialty, day_rows, needs_rows, patients_rows, room_rows, rooms_rows, specialty_rows, stays_rows, unsuited_rows};
 ghost use Rattle.mss_rows.specs.Written.{text_of};
-ghost use Rattle.mss_tables.specs.Barred.{barred_header};
 ghost use Rattle.mss_tables.specs.Equipment.{equipment_header};
-ghost use Rattle.mss_tables.specs.Needs.{needs_header};
-ghost use Rattle.mss_tables.specs.Options.{options_header};
 ghost use Rattle.mss_tables.specs.Patients.{patients_header};
+ghost use Rattle.mss_tables.specs.Restrictions.{barred_header, needs_header, unsuited_header};
 ghost use Rattle.mss_tables.specs.Rooms.{rooms_header};
 ghost use Rattle.mss_tables.specs.SpecialtyFile.{specialties_header};
 ghost use Rattle.mss_tables.specs.Stays.{stays_header};
-ghost use Rattle.mss_tables.specs.Unsuited.{unsuited_header};
 
 use crate::rows::{Barred, Needs, Patients, SpecialtyRows, Stays, Targets, Unsuited, named};
 use crate::specialty::Specialty;
@@ -171,12 +168,12 @@ pub(crate) fn equipment_text(alloc: Global, units: u32) -> Result<Vec<u8>, NoMem
     Ok(text.into_bytes())
 }
 
-/// The text of the fixed slots: there are none.
+/// The text of a table with no record but its header.
 #[tactic(auto, unfolding(mss_rows::specs::Written::text_of))]
-pub(crate) fn fixed_text(alloc: Global) -> Result<Vec<u8>, NoMemory>
-    ensures { IfOk result (λ text. text.items ≡ text_of (options_header ∷ [])) }
+pub(crate) fn header_text(alloc: Global, header: &[&[u8]]) -> Result<Vec<u8>, NoMemory>
+    ensures { IfOk result (λ text. text.items ≡ text_of (map (λ field. field.now) header.now ∷ [])) }
 {
     let mut text = Text::make(alloc);
-    push_row(alloc, &mut text, &[b"day", b"room", b"specialty"])?;
+    push_row(alloc, &mut text, header)?;
     Ok(text.into_bytes())
 }

@@ -1,3 +1,4 @@
+mod ReadingFacts
 pub mod ChanceFacts
 mod BlockFacts
 mod ListFacts
@@ -6,15 +7,10 @@ mod StaysFacts
 mod SpecialtyBlocks
 mod Places
 mod CellFacts
-mod NeedFacts
-mod RowFacts
 mod NamesGrow
 mod RoomFacts
-mod FaultFacts
 mod SpecialtyFacts
 mod WatchFacts
 mod CycleFacts
 mod CycleBack
-mod FirstOfFiles
-mod PartsFacts
 mod TablesFacts

@@ -1,10 +1,9 @@
 //! The tables and the cycle, read from their files.
 //!
-//! Contracts see a file as the list of its records. What accepted files mean, and the first fault of files that aren't
-//! accepted, are defined in `specs/` by look-up among all records.
+//! Contracts see a file as the list of its records. A reading says what files mean, or names their first fault; it is
+//! defined in `specs/` by look-up among all records.
 #![tactic(auto)]
 
-mod barred;
 mod block_file;
 mod blocks;
 mod cells;
@@ -14,18 +13,16 @@ mod cycle_writing;
 mod equipment;
 mod files;
 mod hospital;
-mod named;
-mod needs;
 mod numbering;
-mod options;
+mod numbers;
 mod patients;
 mod read;
+mod reading;
 mod refusal;
 mod restrictions;
 mod rooms;
 mod specialties;
 mod stays;
-mod unsuited;
 mod watch;
 
 pub use block_file::read_block;

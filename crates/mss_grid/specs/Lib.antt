@@ -1,0 +1,5 @@
+pub mod Reading
+pub mod Columns
+pub mod Record
+pub mod Grid
+pub mod Examples
