@@ -1,0 +1,5 @@
+pub mod ForcedBlocks
+pub mod FloorLists
+pub mod FlooredLists
+pub mod LowestSums
+pub mod FloorsRest
