@@ -6,5 +6,6 @@
 mod checker;
 mod lines;
 mod path;
+mod prefix_list;
 
 pub use checker::check;

@@ -37,7 +37,7 @@ apart = apart_tested table_names refl
 
 -- where there is an upper number there is a cycle
 cycle-of : (tables : TableParts) (p : Planned) (best : Option (List ℕ)) (upper : Option ℕ) (n : ℕ)
-    → IsIncumbent (lean_task broken_rule tables) (upper_of tables) p.certificate.tree best upper → upper ≡ Some n → (cycle : List ℕ) × (best ≡ Some cycle)
+    → IsIncumbent (lean_task 2 broken_rule tables) (upper_of tables) p.certificate.tree best upper → upper ≡ Some n → (cycle : List ℕ) × (best ≡ Some cycle)
 cycle-of tables p None None n known e = absurd (cc)
 cycle-of tables p None (Some m) n known e = absurd known
 cycle-of tables p (Some cycle) upper n known e = (cycle, refl)

@@ -5,6 +5,7 @@ use Rattle.mss_model.specs.Legality.{IsLegal}
 use Rattle.mss_model.specs.Peak.{peak}
 use Rattle.mss_model.specs.declared.parts.TableParts.{TableParts}
 use Rattle.mss_enclose.specs.Kept.{lean_convolution, lean_low}
+use Rattle.mss_floor.specs.FlooredLists.{floored_census}
 use Rattle.mss_desk.specs.Desk.{Files, Content}
 use Rattle.mss_cert.specs.CertificateText.{IsShort, certificate_text}
 use Rattle.mss_cert.specs.declared.certificate.Certificate.{Certificate}
@@ -57,13 +58,14 @@ lower_of NoneLegal = None
 
 -- ---- the plan of tables
 
--- The tree of the certificate is that of the search best first with the tables' budget, and valid; the cycle is the best
--- of its full lines, and the search is spent where a line is open.
+-- The certificate is of version 2. Its tree is that of the search best first with the tables' budget, and valid; the cycle is
+-- the best of its full lines, and the search is spent where a line is open.
 pub record IsSearch (rule : TableParts → List ℕ → Option ℕ) (tables : TableParts) (p : Planned) : Type 0 where
+  pub version : p.certificate.version ≡ 2
   pub valid : IsValid rule tables p.certificate
-  pub frugal : IsFrugal (lean_task rule tables) (bound_of lean_convolution lean_low tables) (upper_of tables) tables.budget p.certificate.tree p.turns
-  pub best : IsIncumbent (lean_task rule tables) (upper_of tables) p.certificate.tree p.best p.upper
-  pub spent : IsTrue p.spent ↔ HasOpen (lean_task rule tables) p.certificate.tree
+  pub frugal : IsFrugal (lean_task 2 rule tables) (bound_of (floored_census lean_convolution) lean_low tables) (upper_of tables) tables.budget p.certificate.tree p.turns
+  pub best : IsIncumbent (lean_task 2 rule tables) (upper_of tables) p.certificate.tree p.best p.upper
+  pub spent : IsTrue p.spent ↔ HasOpen (lean_task 2 rule tables) p.certificate.tree
 
 -- A plan of these tables: what a search comes to, and what it proves of the legal cycles.
 pub record IsPlan (rule : TableParts → List ℕ → Option ℕ) (tables : TableParts) (p : Planned) : Type 0 where
@@ -148,8 +150,8 @@ pub record PrintsNoCycle (s : PlanSummary) (planned text : List ℕ) : Type 0 wh
 -- The files are as before but for planned.csv and certificate.txt, and the text is that of a plan of the tables that the
 -- ten files mean. The printed cycle is legal and peaks at most at the upper number, and its report holds. Each legal cycle
 -- peaks at least at the lower number, and where the search closed, at least at the upper number at a level 2^-30 higher;
--- without a number no cycle is legal. The certificate is one that the checker reads, and accepts with the lower number. The search is
--- spent where its tree has an open line, and found no cycle where it has no full line.
+-- without a number no cycle is legal. The certificate is of version 2, and one that the checker reads and accepts with the
+-- lower number. The search is spent where its tree has an open line, and found no cycle where it has no full line.
 pub record PrintedPlan (rule : TableParts → List ℕ → Option ℕ) (before after : Files) (status : Status) (text : List ℕ) : Type 0 where
   pub tables : TableParts
   pub stored : StoresTables before tables
@@ -162,10 +164,11 @@ pub record PrintedPlan (rule : TableParts → List ℕ → Option ℕ) (before a
   pub closed : summary.spent ≡ false → IsLeastOfAll tables summary.upper
   pub short : IsShort certificate
   pub within : length (certificate_text certificate) ≤ certificate_limit
+  pub version : certificate.version ≡ 2
   pub valid : IsValid rule tables certificate
   pub proves : lower_of certificate.end ≡ summary.lower
-  pub spent : IsTrue summary.spent ↔ HasOpen (lean_task rule tables) certificate.tree
-  pub without : (summary.upper ≡ None) ↔ HasNoFull (board_of (lean_task rule tables) certificate.tree)
+  pub spent : IsTrue summary.spent ↔ HasOpen (lean_task 2 rule tables) certificate.tree
+  pub without : (summary.upper ≡ None) ↔ HasNoFull (board_of (lean_task 2 rule tables) certificate.tree)
   pub ends : status ≡ plan_status summary.spent summary.upper
 
 -- at the statuses of a plan a text with that meaning was said

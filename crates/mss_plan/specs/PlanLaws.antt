@@ -23,7 +23,7 @@ not_refused status e may = let k : plan_may_answer status ≡ false = ap plan_ma
 module _ (rule : TableParts → List ℕ → Option ℕ) (tables : TableParts) (p : Planned) (plan : IsPlan rule tables p) where
   -- what is printed, by whether there is a best cycle
   printed : (best : Option (List ℕ)) (upper : Option ℕ) (planned text : List ℕ) → p.best ≡ best → p.upper ≡ upper
-      → IsIncumbent (lean_task rule tables) (upper_of tables) p.certificate.tree best upper → IsCycleFile tables best planned
+      → IsIncumbent (lean_task 2 rule tables) (upper_of tables) p.certificate.tree best upper → IsCycleFile tables best planned
       → PrintsPlan tables (summary_of p) best text → PrintsCycle tables (summary_of p) planned text ⊎ PrintsNoCycle (summary_of p) planned text
   unfolding plan_text_of
   printed None None planned text b u i file prints = inr (record { none = u; file = file; exact = prints })
@@ -42,8 +42,8 @@ module _ (rule : TableParts → List ℕ → Option ℕ) (tables : TableParts) (
   })
 
   -- there is no upper number exactly where no line is full
-  without : (best : Option (List ℕ)) (upper : Option ℕ) → IsIncumbent (lean_task rule tables) (upper_of tables) p.certificate.tree best upper
-      → (upper ≡ None) ↔ HasNoFull (board_of (lean_task rule tables) p.certificate.tree)
+  without : (best : Option (List ℕ)) (upper : Option ℕ) → IsIncumbent (lean_task 2 rule tables) (upper_of tables) p.certificate.tree best upper
+      → (upper ≡ None) ↔ HasNoFull (board_of (lean_task 2 rule tables) p.certificate.tree)
   without None None i = ((λ e. i), (λ none. refl))
   without None (Some n) i = absurd i
   without (Some cycle) None i = absurd i
@@ -63,6 +63,7 @@ module _ (rule : TableParts → List ℕ → Option ℕ) (o : Outcome) (c d : Co
     closed = plans.is.closes;
     short = plans.is.short;
     within = plans.is.within;
+    version = plans.is.search.version;
     valid = plans.is.search.valid;
     proves = refl;
     spent = plans.is.search.spent;

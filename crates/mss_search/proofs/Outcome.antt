@@ -11,6 +11,7 @@ use Rattle.mss_cert.specs.declared.certificate.Line.{Line}
 use Rattle.mss_cert.specs.declared.certificate.Line.TheVariants.{Branch, Dead, Full, Closed, OpenAt}
 use Rattle.mss_cert.specs.declared.certificate.End.TheVariants.{Lower, NoneLegal}
 use Rattle.mss_bounds.specs.declared.prefix_bound.Bound.{Bound}
+use Rattle.mss_floor.specs.FlooredLists.{floored_census}
 use Rattle.mss_bounds.specs.PrefixBound.{bound_of}
 use Rattle.mss_check.specs.Tree.{Task, Fits, children_from, under, Reads, number_of, lesser, least_number, end_of}
 use Rattle.mss_check.specs.Coverage.{Sound}
@@ -126,32 +127,32 @@ some_long x (y ∷ ys) h = omega arith
 
 module _ (rule : TableParts → List ℕ → Option ℕ) (Member : TableParts → List ℕ → Type 0) (joined : List ℕ → List ℕ → List ℕ) (S : List ℕ → List ℕ → Type 0) (low_of : List ℕ → ℕ → ℕ)
     (rules : RuleLaws rule Member) (laws : KindLaws joined S low_of) (t : TableParts) (good : IsTables t) (ns : List Node) (queue : List Waiting) (best : Option Best) (turns : ℕ)
-    (s : IsSearchOf rule joined low_of t ns queue best turns) (p : Planned) (f : IsPlanOf t ns queue best turns p) where
+    (s : IsSearchOf rule (floored_census joined) low_of t ns queue best turns) (p : Planned) (f : IsPlanOf t ns queue best turns p) where
   abbrev task : Task
-  task = task_of rule joined low_of t
+  task = task_of rule (floored_census joined) low_of t
 
   abbrev spots : List Spot
   spots = map (spot_at ns s.prefixes) (order_of ns (length ns))
 
-  grown : Grown (task_of rule joined low_of t) (bound_of joined low_of t) (upper_of t) (map (spot_at ns s.prefixes) (order_of ns (length ns))) best turns
+  grown : Grown (task_of rule (floored_census joined) low_of t) (bound_of (floored_census joined) low_of t) (upper_of t) (map (spot_at ns s.prefixes) (order_of ns (length ns))) best turns
   grown = s.stands.tree
 
   tree_lines : p.certificate.tree ≡ map (λ (z : Spot). z.line) (map (spot_at ns s.prefixes) (order_of ns (length ns)))
   tree_lines = f.tree ∙ map_lines ns s.prefixes (order_of ns (length ns))
 
-  placed_is : placed (task_of rule joined low_of t) ([] ∷ []) p.certificate.tree ≡ map (spot_at ns s.prefixes) (order_of ns (length ns))
+  placed_is : placed (task_of rule (floored_census joined) low_of t) ([] ∷ []) p.certificate.tree ≡ map (spot_at ns s.prefixes) (order_of ns (length ns))
   placed_is = ap (placed task ([] ∷ [])) tree_lines ∙ laid_placed task ([] ∷ []) spots grown.laid
 
-  on_spots : (q : List ℕ) (l : Line) → board_of (task_of rule joined low_of t) p.certificate.tree q l → on (map (spot_at ns s.prefixes) (order_of ns (length ns))) q l
+  on_spots : (q : List ℕ) (l : Line) → board_of (task_of rule (floored_census joined) low_of t) p.certificate.tree q l → on (map (spot_at ns s.prefixes) (order_of ns (length ns))) q l
   on_spots q l h = let P : List Spot → Type 0 = λ z. on z q l in subst P placed_is h
 
-  on_board : (q : List ℕ) (l : Line) → on (map (spot_at ns s.prefixes) (order_of ns (length ns))) q l → board_of (task_of rule joined low_of t) p.certificate.tree q l
+  on_board : (q : List ℕ) (l : Line) → on (map (spot_at ns s.prefixes) (order_of ns (length ns))) q l → board_of (task_of rule (floored_census joined) low_of t) p.certificate.tree q l
   on_board q l h = let P : List Spot → Type 0 = λ z. on z q l in subst P (sym placed_is) h
 
-  reads : Reads (task_of rule joined low_of t) ([] ∷ []) p.certificate.tree
+  reads : Reads (task_of rule (floored_census joined) low_of t) ([] ∷ []) p.certificate.tree
   reads = let P : List Line → Type 0 = λ z. Reads task ([] ∷ []) z in subst P (sym tree_lines) (laid_reads task ([] ∷ []) spots grown.laid)
 
-  pub valid : IsValidFor (task_of rule joined low_of t) t p.certificate
+  pub valid : IsValidFor (task_of rule (floored_census joined) low_of t) t p.certificate
   valid = record { header = f.header; tree = read_valid task p.certificate.tree reads; last = f.last }
 
   -- each turn gives the tree at most a line for each option
@@ -170,45 +171,45 @@ module _ (rule : TableParts → List ℕ → Option ℕ) (Member : TableParts �
       let e = open_entry (spot_at ns s.prefixes) (order_of ns (length ns)) queue s.stands.all r.0 r.1 (subst O (ap (λ (z : Spot). z.line) r.2) tt) in
       some_long e.0 queue e.1
 
-  pub frugal : turns ≤ t.budget → (0 < length queue → turns ≡ t.budget) → IsFrugal (task_of rule joined low_of t) (bound_of joined low_of t) (upper_of t) t.budget p.certificate.tree p.turns
+  pub frugal : turns ≤ t.budget → (0 < length queue → turns ≡ t.budget) → IsFrugal (task_of rule (floored_census joined) low_of t) (bound_of (floored_census joined) low_of t) (upper_of t) t.budget p.certificate.tree p.turns
   frugal within spent = record {
-    each_turn = (let P : List Spot → Type 0 = λ z. Frugal task (bound_of joined low_of t) (upper_of t) (Precedes task (bound_of joined low_of t)) (on z) p.turns in
-        let Q : ℕ → Type 0 = λ n. Frugal task (bound_of joined low_of t) (upper_of t) (Precedes task (bound_of joined low_of t)) (on spots) n in
+    each_turn = (let P : List Spot → Type 0 = λ z. Frugal task (bound_of (floored_census joined) low_of t) (upper_of t) (Precedes task (bound_of (floored_census joined) low_of t)) (on z) p.turns in
+        let Q : ℕ → Type 0 = λ n. Frugal task (bound_of (floored_census joined) low_of t) (upper_of t) (Precedes task (bound_of (floored_census joined) low_of t)) (on spots) n in
         subst P (sym placed_is) (subst Q (sym f.turns_are) grown.frugal));
     within = omega (arith, f.turns_are);
     spent = λ q n w d h. f.turns_are ∙ spent (open_queue q n w d (on_spots q (OpenAt n w d) h));
   }
 
-  pub incumbent : IsIncumbent (task_of rule joined low_of t) (upper_of t) p.certificate.tree p.best p.upper
+  pub incumbent : IsIncumbent (task_of rule (floored_census joined) low_of t) (upper_of t) p.certificate.tree p.best p.upper
   incumbent =
       let P : List Spot → Type 0 = λ z. IsBestSoFar (upper_of t) (on z) best in
       let Q : Option (List ℕ) → Option ℕ → Type 0 = λ b u. IsIncumbent task (upper_of t) p.certificate.tree b u in
       subst (λ b. Q b p.upper) (sym f.cycle) (subst (Q (option_map (λ b. b.cycle) best)) (sym f.number) (incumbent_is task (upper_of t) p.certificate.tree best (subst P (sym placed_is) grown.incumbent)))
 
-  pub spent_is : IsTrue p.spent ↔ HasOpen (task_of rule joined low_of t) p.certificate.tree
+  pub spent_is : IsTrue p.spent ↔ HasOpen (task_of rule (floored_census joined) low_of t) p.certificate.tree
   spent_is = ((λ h. first_entry (f.spent_is.0 h)), (λ h. f.spent_is.1 (open_queue h.0 h.1 h.2 h.3 (on_spots h.0 (OpenAt h.1 h.2 h.3) h.4))))
     where
-      at_node : (w : Waiting) → In w.node (order_of ns (length ns)) → IsEntry (task_of rule joined low_of t) (spot_at ns s.prefixes w.node) w → HasOpen (task_of rule joined low_of t) p.certificate.tree
+      at_node : (w : Waiting) → In w.node (order_of ns (length ns)) → IsEntry (task_of rule (floored_census joined) low_of t) (spot_at ns s.prefixes w.node) w → HasOpen (task_of rule (floored_census joined) low_of t) p.certificate.tree
       at_node w i e =
           let P : Line → Type 0 = λ l. on spots (spot_at ns s.prefixes w.node).at l in
           ((spot_at ns s.prefixes w.node).at, w.number, w.ward, w.day, on_board (spot_at ns s.prefixes w.node).at (OpenAt w.number w.ward w.day) (subst P e.line (in_map (spot_at ns s.prefixes) w.node (order_of ns (length ns)) i)))
 
-      first_entry : 0 < length queue → HasOpen (task_of rule joined low_of t) p.certificate.tree
+      first_entry : 0 < length queue → HasOpen (task_of rule (floored_census joined) low_of t) p.certificate.tree
       first_entry h = first_of queue refl h
         where
-          first_of : (ws : List Waiting) → queue ≡ ws → 0 < length ws → HasOpen (task_of rule joined low_of t) p.certificate.tree
+          first_of : (ws : List Waiting) → queue ≡ ws → 0 < length ws → HasOpen (task_of rule (floored_census joined) low_of t) p.certificate.tree
           first_of [] e l = absurd (omega arith)
           first_of (w ∷ ws) e l =
               let same : get_or queue 0 w ≡ w = ap (λ z. get_or z 0 w) e in
               let some : 0 < length queue = h in
               let P : Waiting → Type 0 = λ x. In x.node (order_of ns (length ns)) in
-              let Q : Waiting → Type 0 = λ x. IsEntry (task_of rule joined low_of t) (spot_at ns s.prefixes x.node) x in
+              let Q : Waiting → Type 0 = λ x. IsEntry (task_of rule (floored_census joined) low_of t) (spot_at ns s.prefixes x.node) x in
               at_node w (subst P same (entry_in (spot_at ns s.prefixes) (order_of ns (length ns)) queue s.stands.all 0 w some)) (subst Q same (s.stands.entries 0 w some))
 
   pub closed_off : p.spent ≡ false → (q : List ℕ) (n w d : ℕ) → on (map (spot_at ns s.prefixes) (order_of ns (length ns))) q (OpenAt n w d) → ⊥
   closed_off e q n w d h = let k : IsTrue p.spent = f.spent_is.1 (open_queue q n w d h) in cc
 
-  full_known : (c : List ℕ) (s1 n w d : ℕ) → board_of (task_of rule joined low_of t) p.certificate.tree c (Full s1 n w d) → Member t c
+  full_known : (c : List ℕ) (s1 n w d : ℕ) → board_of (task_of rule (floored_census joined) low_of t) p.certificate.tree c (Full s1 n w d) → Member t c
   full_known c s1 n w d h =
       let i = on_spots c (Full s1 n w d) h in
       let x : Spot = record { at = c; line = Full s1 n w d } in
@@ -226,7 +227,7 @@ module _ (rule : TableParts → List ℕ → Option ℕ) (Member : TableParts �
       let few : length c ≤ slot_count t = (let w = (rules.legal t c (member c e)).whole in omega arith) in
       omega (arith, same, r.2.reached, upper-above t c good few)
 
-  the_sound : Sound (task_of rule joined low_of t) (Member t) (λ m. peak t m t.level 1000000)
+  the_sound : Sound (task_of rule (floored_census joined) low_of t) (Member t) (λ m. peak t m t.level 1000000)
   the_sound = sound rule Member joined S low_of rules laws t good
 
   pub lower : (n : ℕ) → p.certificate.end ≡ Lower n → (c : List ℕ) → Member t c → n ≤ peak t c t.level 1000000
@@ -241,7 +242,7 @@ module _ (rule : TableParts → List ℕ → Option ℕ) (Member : TableParts �
       let is : NoneLegal ≡ Lower b.number = sym e ∙ (f.last ∙ ap end_of b.least) in cc
 
   right_zero : (q : List ℕ) (l : Line) → on (map (spot_at ns s.prefixes) (order_of ns (length ns))) q l → IsRightlyTaken (Held (upper_of t) (on (map (spot_at ns s.prefixes) (order_of ns (length ns))))) 0 l
-  right_zero q l h = rightly_zero (Held (upper_of t) (on spots)) (bound_of joined low_of t q).number l (grown.frugal.rightly q l h)
+  right_zero q l h = rightly_zero (Held (upper_of t) (on spots)) (bound_of (floored_census joined) low_of t q).number l (grown.frugal.rightly q l h)
 
   pub closing : p.spent ≡ false → (n : ℕ) → p.upper ≡ Some n → (c : List ℕ) → Member t c → n ≤ peak t c (t.level * 2 ^ 30 + 1000000) (1000000 * 2 ^ 30)
   closing e n k c w =
@@ -273,8 +274,8 @@ module _ (rule : TableParts → List ℕ → Option ℕ) (Member : TableParts �
         enough = elim side [ inl h ↦ inl h | inr h ↦ inr (h.0, h.1, h.2, (let Q : Line → Type 0 = λ z. In z p.certificate.tree in subst Q h.3 (in_tree x.at x.line at_spot.1))) ];
       }
 
-  pub tight : IsTight (task_of rule joined low_of t) p.certificate.tree (λ q. peak t q (t.level * 2 ^ 30 - 1000000) (1000000 * 2 ^ 30))
+  pub tight : IsTight (task_of rule (floored_census joined) low_of t) p.certificate.tree (λ q. peak t q (t.level * 2 ^ 30 - 1000000) (1000000 * 2 ^ 30))
   tight q l n h e =
       let i = on_spots q l h in
       let few : length q ≤ slot_count t = laid_short task ([] ∷ []) spots (λ z o. elim o [ inl y ↦ omega (arith, ap length y) | inr y ↦ absurd y ]) grown.laid (record { at = q; line = l }) i in
-      omega (arith, number_bound l (bound_of joined low_of t q) n (grown.frugal.bounds q l i) e, bound-tight joined S low_of laws t q good few)
+      omega (arith, number_bound l (bound_of (floored_census joined) low_of t q) n (grown.frugal.bounds q l i) e, bound-tight joined S low_of laws t q good few)

@@ -3,6 +3,7 @@ ghost use Rattle.std.specs.Prelude.{◌≡◌, ℕ, ◌+◌, ◌<◌, ◌≤◌,
 ghost use Rattle.std.specs.List.{All};
 ghost use Rattle.mss_model.specs.TableWords.{slot_count, option_count};
 ghost use Rattle.mss_model.specs.PartsOf.{parts_of};
+ghost use Rattle.mss_floor.specs.FlooredLists.{floored_census};
 ghost use Rattle.mss_bounds.specs.BounderView.{IsBounderOf};
 ghost use Rattle.mss_bounds.specs.PrefixBound.{bound_of};
 ghost use Rattle.mss_search.specs.Kids.{fresh_line, kid_lines, HasKids};
@@ -26,7 +27,7 @@ pub(crate) fn fresh_line<E: Enclosure, K: Kernel, R: Rules>(
     requires tables { IsBounderOf (parts_of tables.now) bounder.old }
     requires long { length prefix.now ≤ slot_count (parts_of tables.now) }
     requires options { All (λ option. option < option_count (parts_of tables.now)) prefix.now }
-    ensures line { result ≡ fresh_line (R.rule (parts_of tables.now)) (bound_of E.joined E.low_of (parts_of tables.now)) prefix.now }
+    ensures line { result ≡ fresh_line (R.rule (parts_of tables.now)) (bound_of (floored_census E.joined) E.low_of (parts_of tables.now)) prefix.now }
     ensures bounder { IsBounderOf (parts_of tables.now) bounder.new }
 {
     match rules.dead(tables, prefix) {
@@ -58,7 +59,7 @@ fn carry<E: Enclosure, K: Kernel>(
     ensures { IsBounderOf (parts_of tables.now) bounder.new }
 {
     if (bounder.carried(prefix) as usize) < prefix.len() {
-        let _bound = bounder.bound(kernel, tables, prefix);
+        bounder.carry(kernel, tables, prefix);
     }
 }
 
@@ -66,7 +67,7 @@ fn carry<E: Enclosure, K: Kernel>(
 fn child_of(alloc: Global, prefix: &[u8], option: u8) -> Result<Vec<u8>, NoMemory>
     ensures { IfOk result (λ v. v.items ≡ prefix.now ++ option ∷ []) }
 {
-    let mut child = Vec::new(alloc);
+    let mut child = Vec::with_capacity(alloc, prefix.len() + 1)?;
     child.extend_from_slice(prefix)?;
     child.push(option)?;
     Ok(child)
@@ -84,11 +85,11 @@ pub(crate) fn kid_lines<E: Enclosure, K: Kernel, R: Rules>(
     requires tables { IsBounderOf (parts_of tables.now) bounder.old }
     requires short { length prefix.now < slot_count (parts_of tables.now) }
     requires options { All (λ option. option < option_count (parts_of tables.now)) prefix.now }
-    ensures lines { IfOk result (λ v. v.items ≡ kid_lines (R.rule (parts_of tables.now)) (bound_of E.joined E.low_of (parts_of tables.now)) (option_count (parts_of tables.now)) prefix.now) }
+    ensures lines { IfOk result (λ v. v.items ≡ kid_lines (R.rule (parts_of tables.now)) (bound_of (floored_census E.joined) E.low_of (parts_of tables.now)) (option_count (parts_of tables.now)) prefix.now) }
     ensures bounder { IsBounderOf (parts_of tables.now) bounder.new }
 {
     carry(tables, kernel, bounder, prefix);
-    let mut lines = Vec::new(alloc);
+    let mut lines = Vec::with_capacity(alloc, usize::from(tables.specialties()) + 1)?;
     for option in 0..tables.specialties() + 1 {
         let child = child_of(alloc, prefix, option)?;
         lines.push(fresh_line(tables, kernel, rules, bounder, child.as_slice()))?;

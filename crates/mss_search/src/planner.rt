@@ -3,6 +3,7 @@ ghost use Rattle.std.specs.Prelude.{◌≡◌, ◌↔◌, ℕ, ◌+◌, ◌*◌,
 ghost use Rattle.mss_model.specs.Peak.{peak};
 ghost use Rattle.mss_model.specs.PartsOf.{parts_of};
 ghost use Rattle.mss_model.specs.TableWords.{option_count};
+ghost use Rattle.mss_floor.specs.FlooredLists.{floored_census};
 ghost use Rattle.mss_bounds.specs.BounderView.{IsBounderOf};
 ghost use Rattle.mss_bounds.specs.PrefixBound.{bound_of};
 ghost use Rattle.mss_cert.specs.declared.certificate.End.TheVariants.{Lower, NoneLegal};
@@ -47,10 +48,11 @@ pub fn plan<E: Enclosure, K: Kernel, R: Rules>(
     kernel: &K,
     rules: &R,
 ) -> Result<Planned, NoMemory>
-    ensures valid { IfOk result (λ p. IsValidFor (task_of R.rule E.joined E.low_of (parts_of tables.now)) (parts_of tables.now) p.certificate) }
-    ensures frugal { IfOk result (λ p. IsFrugal (task_of R.rule E.joined E.low_of (parts_of tables.now)) (bound_of E.joined E.low_of (parts_of tables.now)) (upper_of (parts_of tables.now)) (parts_of tables.now).budget p.certificate.tree p.turns) }
-    ensures best { IfOk result (λ p. IsIncumbent (task_of R.rule E.joined E.low_of (parts_of tables.now)) (upper_of (parts_of tables.now)) p.certificate.tree p.best p.upper) }
-    ensures spent { IfOk result (λ p. IsTrue p.spent ↔ HasOpen (task_of R.rule E.joined E.low_of (parts_of tables.now)) p.certificate.tree) }
+    ensures version { IfOk result (λ p. p.certificate.version ≡ 2) }
+    ensures valid { IfOk result (λ p. IsValidFor (task_of R.rule (floored_census E.joined) E.low_of (parts_of tables.now)) (parts_of tables.now) p.certificate) }
+    ensures frugal { IfOk result (λ p. IsFrugal (task_of R.rule (floored_census E.joined) E.low_of (parts_of tables.now)) (bound_of (floored_census E.joined) E.low_of (parts_of tables.now)) (upper_of (parts_of tables.now)) (parts_of tables.now).budget p.certificate.tree p.turns) }
+    ensures best { IfOk result (λ p. IsIncumbent (task_of R.rule (floored_census E.joined) E.low_of (parts_of tables.now)) (upper_of (parts_of tables.now)) p.certificate.tree p.best p.upper) }
+    ensures spent { IfOk result (λ p. IsTrue p.spent ↔ HasOpen (task_of R.rule (floored_census E.joined) E.low_of (parts_of tables.now)) p.certificate.tree) }
     ensures few { IfOk result (λ p. length p.certificate.tree ≤ 1 + option_count (parts_of tables.now) * p.turns) }
     ensures member { IfOk result (λ p. (cycle : List ℕ) → p.best ≡ Some cycle → R.Member (parts_of tables.now) cycle) }
     ensures peaks { IfOk result (λ p. (cycle : List ℕ) (n : ℕ) → p.best ≡ Some cycle → p.upper ≡ Some n → peak (parts_of tables.now) cycle (parts_of tables.now).level 1000000 ≤ n) }
@@ -59,7 +61,7 @@ pub fn plan<E: Enclosure, K: Kernel, R: Rules>(
     ensures closes { IfOk result (λ p. p.spent ≡ false → (n : ℕ) → p.upper ≡ Some n → (cycle : List ℕ) → R.Member (parts_of tables.now) cycle
         → n ≤ peak (parts_of tables.now) cycle ((parts_of tables.now).level * 2 ^ 30 + 1000000) (1000000 * 2 ^ 30)) }
     ensures reaches { IfOk result (λ p. p.spent ≡ false → (n : ℕ) → p.upper ≡ Some n → Reaches p.certificate n) }
-    ensures tight { IfOk result (λ p. IsTight (task_of R.rule E.joined E.low_of (parts_of tables.now)) p.certificate.tree
+    ensures tight { IfOk result (λ p. IsTight (task_of R.rule (floored_census E.joined) E.low_of (parts_of tables.now)) p.certificate.tree
         (λ prefix. peak (parts_of tables.now) prefix ((parts_of tables.now).level * 2 ^ 30 - 1000000) (1000000 * 2 ^ 30))) }
 {
     let search = searched::<E, K, R>(alloc, tables, kernel, rules)?;
@@ -73,7 +75,7 @@ fn searched<E: Enclosure, K: Kernel, R: Rules>(
     kernel: &K,
     rules: &R,
 ) -> Result<Search, NoMemory>
-    ensures search { IfOk result (λ s. IsSearchOf R.rule E.joined E.low_of (parts_of tables.now) s.nodes.items s.queue s.best s.turns) }
+    ensures search { IfOk result (λ s. IsSearchOf R.rule (floored_census E.joined) E.low_of (parts_of tables.now) s.nodes.items s.queue s.best s.turns) }
     ensures within { IfOk result (λ s. s.turns ≤ (parts_of tables.now).budget) }
     ensures spent { IfOk result (λ s. 0 < length s.queue → s.turns ≡ (parts_of tables.now).budget) }
 {
@@ -103,7 +105,7 @@ fn start<E: Enclosure, K: Kernel, R: Rules>(
     bounder: &mut Bounder<E>,
 ) -> Result<Search, NoMemory>
     requires { IsBounderOf (parts_of tables.now) bounder.old }
-    ensures search { IfOk result (λ s. IsSearchOf R.rule E.joined E.low_of (parts_of tables.now) s.nodes.items s.queue s.best s.turns) }
+    ensures search { IfOk result (λ s. IsSearchOf R.rule (floored_census E.joined) E.low_of (parts_of tables.now) s.nodes.items s.queue s.best s.turns) }
     ensures turns { IfOk result (λ s. s.turns ≡ 0) }
     ensures bounder { IsBounderOf (parts_of tables.now) bounder.new }
 {
@@ -148,6 +150,7 @@ fn finish(alloc: Global, tables: &Tables, search: Search) -> Result<Planned, NoM
     let (best, upper) = parts_of_best(best);
     Ok(Planned {
         certificate: Certificate {
+            version: 2,
             slots: tables.slots(),
             options: u32::from(tables.specialties()) + 1,
             level: tables.level(),

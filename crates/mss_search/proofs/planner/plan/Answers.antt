@@ -3,6 +3,7 @@ use Rattle.std.specs.Prelude.{◌↔◌}
 use Rattle.mss_model.specs.Peak.{peak}
 use Rattle.mss_model.specs.PartsOf.{parts_of}
 use Rattle.mss_model.specs.TableWords.{option_count}
+use Rattle.mss_floor.specs.FlooredLists.{floored_census}
 use Rattle.mss_cert.specs.declared.certificate.End.TheVariants.{Lower, NoneLegal}
 use Rattle.mss_bounds.specs.PrefixBound.{bound_of}
 use Rattle.mss_check.specs.Tasks.{task_of}
@@ -20,12 +21,17 @@ from_ok : {V E : Type 0} (P Q : V → Type 0) (r : Result V E) → ((v : V) → 
 from_ok P Q (Ok v) f h = f v h
 from_ok P Q (Err e) f h = h
 
+pub returns-clause-version : goal.returns-clause-version
+returns-clause-version g c =
+    let t = parts_of c.args.tables.now in let s = c.in_ok-search.search in
+    from_ok (IsPlanOf t s.nodes.items s.queue s.best s.turns) (λ p. p.certificate.version ≡ 2) c.finish.result (λ p f. f.version) c.finish.ensures
+
 pub returns-clause-valid : goal.returns-clause-valid
 returns-clause-valid g c =
     let t = parts_of c.args.tables.now in let E = g.E.Enclosure in let R = g.R.Rules in let s = c.in_ok-search.search in
     let kind : KindLaws E.joined E.stands_for E.low_of = record { starts = g.met.E.Enclosure.starts; sums = g.met.E.Enclosure.sums; low_at_most = g.met.E.Enclosure.low_at_most; keeps_near = g.met.E.Enclosure.keeps_near; low_at_least = g.met.E.Enclosure.low_at_least; joined_length = g.met.E.Enclosure.joined_length } in
     let rules : RuleLaws R.rule R.Member = record { alive = g.met.R.Rules.alive; full = g.met.R.Rules.full; legal = g.met.R.Rules.legal } in
-    from_ok (IsPlanOf t s.nodes.items s.queue s.best s.turns) (λ p. IsValidFor (task_of R.rule E.joined E.low_of t) t p.certificate) c.finish.result
+    from_ok (IsPlanOf t s.nodes.items s.queue s.best s.turns) (λ p. IsValidFor (task_of R.rule (floored_census E.joined) E.low_of t) t p.certificate) c.finish.result
     (λ p f. valid R.rule R.Member E.joined E.stands_for E.low_of rules kind t c.args.tables.now.good s.nodes.items s.queue s.best s.turns c.in_ok-search.ensures.search p f) c.finish.ensures
 
 pub returns-clause-frugal : goal.returns-clause-frugal
@@ -33,7 +39,7 @@ returns-clause-frugal g c =
     let t = parts_of c.args.tables.now in let E = g.E.Enclosure in let R = g.R.Rules in let s = c.in_ok-search.search in
     let kind : KindLaws E.joined E.stands_for E.low_of = record { starts = g.met.E.Enclosure.starts; sums = g.met.E.Enclosure.sums; low_at_most = g.met.E.Enclosure.low_at_most; keeps_near = g.met.E.Enclosure.keeps_near; low_at_least = g.met.E.Enclosure.low_at_least; joined_length = g.met.E.Enclosure.joined_length } in
     let rules : RuleLaws R.rule R.Member = record { alive = g.met.R.Rules.alive; full = g.met.R.Rules.full; legal = g.met.R.Rules.legal } in
-    from_ok (IsPlanOf t s.nodes.items s.queue s.best s.turns) (λ p. IsFrugal (task_of R.rule E.joined E.low_of t) (bound_of E.joined E.low_of t) (upper_of t) t.budget p.certificate.tree p.turns) c.finish.result
+    from_ok (IsPlanOf t s.nodes.items s.queue s.best s.turns) (λ p. IsFrugal (task_of R.rule (floored_census E.joined) E.low_of t) (bound_of (floored_census E.joined) E.low_of t) (upper_of t) t.budget p.certificate.tree p.turns) c.finish.result
     (λ p f. frugal R.rule R.Member E.joined E.stands_for E.low_of rules kind t c.args.tables.now.good s.nodes.items s.queue s.best s.turns c.in_ok-search.ensures.search p f c.in_ok-search.ensures.within c.in_ok-search.ensures.spent) c.finish.ensures
 
 pub returns-clause-best : goal.returns-clause-best
@@ -41,7 +47,7 @@ returns-clause-best g c =
     let t = parts_of c.args.tables.now in let E = g.E.Enclosure in let R = g.R.Rules in let s = c.in_ok-search.search in
     let kind : KindLaws E.joined E.stands_for E.low_of = record { starts = g.met.E.Enclosure.starts; sums = g.met.E.Enclosure.sums; low_at_most = g.met.E.Enclosure.low_at_most; keeps_near = g.met.E.Enclosure.keeps_near; low_at_least = g.met.E.Enclosure.low_at_least; joined_length = g.met.E.Enclosure.joined_length } in
     let rules : RuleLaws R.rule R.Member = record { alive = g.met.R.Rules.alive; full = g.met.R.Rules.full; legal = g.met.R.Rules.legal } in
-    from_ok (IsPlanOf t s.nodes.items s.queue s.best s.turns) (λ p. IsIncumbent (task_of R.rule E.joined E.low_of t) (upper_of t) p.certificate.tree p.best p.upper) c.finish.result
+    from_ok (IsPlanOf t s.nodes.items s.queue s.best s.turns) (λ p. IsIncumbent (task_of R.rule (floored_census E.joined) E.low_of t) (upper_of t) p.certificate.tree p.best p.upper) c.finish.result
     (λ p f. incumbent R.rule R.Member E.joined E.stands_for E.low_of rules kind t c.args.tables.now.good s.nodes.items s.queue s.best s.turns c.in_ok-search.ensures.search p f) c.finish.ensures
 
 pub returns-clause-spent : goal.returns-clause-spent
@@ -49,7 +55,7 @@ returns-clause-spent g c =
     let t = parts_of c.args.tables.now in let E = g.E.Enclosure in let R = g.R.Rules in let s = c.in_ok-search.search in
     let kind : KindLaws E.joined E.stands_for E.low_of = record { starts = g.met.E.Enclosure.starts; sums = g.met.E.Enclosure.sums; low_at_most = g.met.E.Enclosure.low_at_most; keeps_near = g.met.E.Enclosure.keeps_near; low_at_least = g.met.E.Enclosure.low_at_least; joined_length = g.met.E.Enclosure.joined_length } in
     let rules : RuleLaws R.rule R.Member = record { alive = g.met.R.Rules.alive; full = g.met.R.Rules.full; legal = g.met.R.Rules.legal } in
-    from_ok (IsPlanOf t s.nodes.items s.queue s.best s.turns) (λ p. IsTrue p.spent ↔ HasOpen (task_of R.rule E.joined E.low_of t) p.certificate.tree) c.finish.result
+    from_ok (IsPlanOf t s.nodes.items s.queue s.best s.turns) (λ p. IsTrue p.spent ↔ HasOpen (task_of R.rule (floored_census E.joined) E.low_of t) p.certificate.tree) c.finish.result
     (λ p f. spent_is R.rule R.Member E.joined E.stands_for E.low_of rules kind t c.args.tables.now.good s.nodes.items s.queue s.best s.turns c.in_ok-search.ensures.search p f) c.finish.ensures
 
 pub returns-clause-few : goal.returns-clause-few
@@ -113,5 +119,5 @@ returns-clause-tight g c =
     let t = parts_of c.args.tables.now in let E = g.E.Enclosure in let R = g.R.Rules in let s = c.in_ok-search.search in
     let kind : KindLaws E.joined E.stands_for E.low_of = record { starts = g.met.E.Enclosure.starts; sums = g.met.E.Enclosure.sums; low_at_most = g.met.E.Enclosure.low_at_most; keeps_near = g.met.E.Enclosure.keeps_near; low_at_least = g.met.E.Enclosure.low_at_least; joined_length = g.met.E.Enclosure.joined_length } in
     let rules : RuleLaws R.rule R.Member = record { alive = g.met.R.Rules.alive; full = g.met.R.Rules.full; legal = g.met.R.Rules.legal } in
-    from_ok (IsPlanOf t s.nodes.items s.queue s.best s.turns) (λ p. IsTight (task_of R.rule E.joined E.low_of t) p.certificate.tree (λ q. peak t q (t.level * 2 ^ 30 - 1000000) (1000000 * 2 ^ 30))) c.finish.result
+    from_ok (IsPlanOf t s.nodes.items s.queue s.best s.turns) (λ p. IsTight (task_of R.rule (floored_census E.joined) E.low_of t) p.certificate.tree (λ q. peak t q (t.level * 2 ^ 30 - 1000000) (1000000 * 2 ^ 30))) c.finish.result
     (λ p f. tight R.rule R.Member E.joined E.stands_for E.low_of rules kind t c.args.tables.now.good s.nodes.items s.queue s.best s.turns c.in_ok-search.ensures.search p f) c.finish.ensures
