@@ -11,14 +11,30 @@ pub fn dead_alike(t: &Tables, prefix: &[u8]) -> u8 {
 
 fn breaks_order(t: &Tables, prefix: &[u8]) -> bool {
     let rooms = t.rooms.len();
-    (0..prefix.len()).any(|later| (later - later % rooms..later).any(|earlier| prefix[later] < prefix[earlier] && alike(t, earlier, later)))
+    let numbers = suit_numbers(t);
+    let mut room = 0;
+    for later in 0..prefix.len() {
+        if (later - room..later).any(|earlier| prefix[later] < prefix[earlier] && alike(t, &numbers, earlier, later, room)) {
+            return true;
+        }
+        room = if room + 1 == rooms { 0 } else { room + 1 };
+    }
+    false
 }
 
-// Whether two slots of one day have the same minutes, the same fixed option or none, and rooms that suit the same.
-fn alike(t: &Tables, s: usize, u: usize) -> bool {
+// A number for each room, which rooms share that suit the same specialties.
+fn suit_numbers(t: &Tables) -> [u32; 16] {
     let rooms = t.rooms.len();
-    let suited = |room: usize| (0..t.specialties.len()).map(move |j| t.unsuited[j * rooms + room]);
-    t.minutes[s] == t.minutes[u] && t.fixed[s] == t.fixed[u] && suited(s % rooms).eq(suited(u % rooms))
+    let mut numbers = [0; 16];
+    for room in 0..rooms {
+        numbers[room] = (0..t.specialties.len()).fold(0, |number, j| number * 2 + u32::from(!t.unsuited[j * rooms + room]));
+    }
+    numbers
+}
+
+// Whether two slots of one day are alike: their minutes, their fixed option or none, and what their rooms suit.
+fn alike(t: &Tables, numbers: &[u32; 16], earlier: usize, later: usize, room: usize) -> bool {
+    numbers[earlier + room - later] == numbers[room] && t.minutes[earlier] == t.minutes[later] && t.fixed[earlier] == t.fixed[later]
 }
 
 pub fn dead(t: &Tables, prefix: &[u8]) -> u8 {

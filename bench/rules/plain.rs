@@ -25,13 +25,13 @@ fn either(seed: u64, count: usize, one: u32, other: u32) -> Vec<u32> {
     }).collect()
 }
 
-fn tables(seed: u64, apart: bool) -> Tables {
+fn tables(seed: u64, apart: bool, uneven: bool) -> Tables {
     let mut word = seed;
     let mut minutes = vec![];
     for day in 0..DAYS {
-        for _ in 0..ROOMS {
+        for room in 0..ROOMS {
             word = next(word);
-            minutes.push(if day % 7 < 5 { 420 + 60 * below(word, 2) as u32 } else { 0 });
+            minutes.push(if day % 7 >= 5 { 0 } else if uneven { 420 + 5 * room as u32 } else { 420 + 60 * below(word, 2) as u32 });
         }
     }
     let first = below(next(seed), 4);
@@ -71,9 +71,9 @@ fn main() {
     let words: Vec<String> = std::env::args().skip(1).collect();
     let seed = words[0].bytes().fold(0u64, |seed, byte| seed.wrapping_mul(10).wrapping_add(u64::from(byte)));
     let has = |word: &str| words.iter().any(|it| it == word);
-    let apart = has("apart");
+    let (apart, uneven, rising) = (has("apart"), has("uneven"), has("rising"));
     let dead = if has("none") { |_: &Tables, _: &[u8]| 0 } else if has("alike") { dead_alike } else { dead };
-    let tables = tables(seed, apart);
+    let tables = tables(seed, apart, uneven);
     let mut all = 0u64;
     for _ in 0..100 {
         let (mut sum, mut word, mut prefix) = (0u64, seed, vec![]);
@@ -86,7 +86,7 @@ fn main() {
                 sum = sum.wrapping_mul(3).wrapping_add(rule(&tables, &prefix, dead));
                 prefix.pop();
             }
-            let taken = if apart { 12 - slot % ROOMS } else { (slot + below(word, 12)) % 12 + 1 };
+            let taken = if rising { slot % ROOMS + 1 } else if apart || uneven { 12 - slot % ROOMS } else { (slot + below(word, 12)) % 12 + 1 };
             prefix.push(if (slot / ROOMS) % 7 < 5 { taken as u8 } else { 0 });
         }
         all = all.wrapping_add(sum);

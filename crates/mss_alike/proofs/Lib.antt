@@ -1,4 +1,5 @@
 pub mod SameDay
+pub mod SuitNumbers
 pub mod Exchanges
 pub mod SlotCensus
 pub mod Kept

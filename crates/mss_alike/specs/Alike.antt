@@ -9,18 +9,22 @@ use Rattle.mss_model.specs.Peak.{peak}
 use Rattle.mss_model.specs.Sums.{sum_below}
 use Rattle.mss_model.specs.TableWords.{day_of, fixed_at, is_unsuited, minutes_at, room_of, specialty_count}
 
+-- whether a room suits specialty j
+abbrev pub suits : TableParts → ℕ → ℕ → Bool
+suits t j room = not (is_unsuited t j room)
+
 -- Two slots are alike where they are of one day and have the same minutes, the same fixed option or none, and rooms
 -- that suit the same specialties.
 pub record AreAlike (t : TableParts) (slot other : ℕ) : Type 0 where
   pub day : day_of t slot ≡ day_of t other
   pub minutes : minutes_at t slot ≡ minutes_at t other
   pub fixed : fixed_at t slot ≡ fixed_at t other
-  pub suited : (j : ℕ) → 0 < j → j ≤ specialty_count t → is_unsuited t j (room_of t slot) ≡ is_unsuited t j (room_of t other)
+  pub suited : (j : ℕ) → 0 < j → j ≤ specialty_count t → suits t j (room_of t slot) ≡ suits t j (room_of t other)
 
 -- whether a specialty suits one of two rooms alone
 abbrev pub suit_apart : TableParts → ℕ → ℕ → Bool
 suit_apart t room other =
-    some_below (specialty_count t) (λ j. not (beq (is_unsuited t (j + 1) room) (is_unsuited t (j + 1) other)))
+    some_below (specialty_count t) (λ j. not (beq (suits t (j + 1) room) (suits t (j + 1) other)))
 
 -- whether two slots are alike
 abbrev pub is_alike : TableParts → ℕ → ℕ → Bool

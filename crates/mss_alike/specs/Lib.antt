@@ -1,4 +1,5 @@
 pub mod Alike
+pub mod SuitNumbers
 pub mod RuleSets
 pub mod Arranged
 pub mod Examples

@@ -6,6 +6,8 @@
 
 mod arranging;
 mod canonical;
+mod order;
+mod rooms;
 mod rule_set;
 mod slots;
 

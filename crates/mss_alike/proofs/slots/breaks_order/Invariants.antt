@@ -1,8 +1,0 @@
-use Rattle.std.proofs.Common.{◌≡◌}
-use Rattle.mss_model.specs.Legality.{some_below}
-use Rattle.mss_model.specs.PartsOf.{parts_of}
-use Rattle.mss_alike.specs.Alike.{falls}
-use Rattle.mss_alike.proofs.slots.breaks_order.Given as goal
-
-abbrev pub invariant-loop-later : goal.invariant-loop-later
-invariant-loop-later l = l.broken ≡ some_below l.later (falls (parts_of l.tables) l.prefix)
