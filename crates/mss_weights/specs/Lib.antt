@@ -12,3 +12,4 @@ pub mod WeightsText
 pub mod WeightsFaults
 pub mod ListLines
 pub mod Labelled
+pub mod ShortLists
