@@ -1,2 +1,2 @@
 pub mod Better
-mod FewWords
+mod OtherWords

@@ -1,7 +1,7 @@
 -- Words that are a request, and words that are none.
 use Rattle.std.specs.Prelude.{◌≡◌, [], ◌∷◌, Some, None, codes}
 use Rattle.std.proofs.Common.{refl}
-use Rattle.mss_timetable.specs.declared.request.Request.TheVariants.{Cycle, New}
+use Rattle.mss_timetable.specs.declared.request.Request.TheVariants.{Cycle, New, Check}
 use Rattle.mss_timetable.specs.Requests.{request, tries_in}
 
 most-tries : tries_in (codes "100000000") ≡ Some 100000000
@@ -24,3 +24,9 @@ leading-zero = refl
 
 too-few-words : request (codes "cycle" ∷ codes "2" ∷ []) ≡ None
 too-few-words = refl
+
+lower-number : request (codes "check" ∷ []) ≡ Some Check
+lower-number = refl
+
+check-of-more : request (codes "check" ∷ codes "alike" ∷ []) ≡ None
+check-of-more = refl

@@ -1,7 +1,7 @@
 -- What the commands of `mss_improve` come to keeps their promises.
 use Rattle.std.proofs.Common.{◌≡◌, ℕ, List, [], ◌++◌, Some, None, inl, inr, sym, ap, ◌∙◌}
 use Rattle.mss_model.specs.declared.parts.TableParts.{TableParts}
-use Rattle.mss_desk.specs.Desk.{Files, Content}
+use Rattle.mss_desk.specs.Desk.{Content}
 use Rattle.mss_command.specs.declared.status.Status.TheVariants as statuses
 use Rattle.mss_command.specs.Cycles.{cycle_file}
 use Rattle.mss_command.specs.CycleLaws.{cycle_or_refused}
@@ -31,8 +31,11 @@ module _ (tries : ℕ) (o : Outcome) (c d : Content) (did : Did o c d) where
     summary = improves.summary;
     better = improves.better;
     tried = improves.tried;
+    lower = improves.lower;
     improved = improves.puts.improved;
     file = improves.puts.file;
+    weights = improves.puts.weights;
+    shown = improves.puts.shown;
     files = did.files ∙ ap (λ ps. put_all ps c.files) improves.puts.exact;
     report = improves.prints.report;
     exact = improves.prints.exact;

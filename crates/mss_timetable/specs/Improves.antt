@@ -1,5 +1,5 @@
 -- What the commands of `mss_improve` come to, and what they promise.
-use Rattle.std.specs.Prelude.{◌≡◌, ◌⊎◌, ⊤, ℕ, ◌≤◌, Bool, true, false, List, [], ◌∷◌, ◌++◌, codes}
+use Rattle.std.specs.Prelude.{◌≡◌, ◌⊎◌, ℕ, ◌≤◌, Bool, true, false, List, [], ◌∷◌, ◌++◌, codes}
 use Rattle.mss_model.specs.Legality.{IsLegal}
 use Rattle.mss_model.specs.Peak.{peak}
 use Rattle.mss_model.specs.declared.parts.TableParts.{TableParts}
@@ -15,6 +15,7 @@ use Rattle.mss_command.specs.Outcome.{Outcome, put_all, saying}
 use Rattle.mss_command.specs.Questions.{StoresTables}
 use Rattle.mss_local.specs.declared.improving.Effort.{Effort}
 use Rattle.mss_local.specs.declared.improving.Improved.{Improved}
+use Rattle.mss_timetable.specs.Lower.{EachPeaksAt, IsShownBy, weights_file}
 use Rattle.mss_timetable.specs.Summary.{improved_text_of}
 use Rattle.mss_timetable.specs.declared.summary.Summary.{Summary}
 
@@ -36,30 +37,40 @@ pub record IsBetter (tables : TableParts) (start cycle : List ℕ) (s : Summary)
   pub start_peak : PeakEncloses tables start tables.level s.start_low s.start_high
   pub accepted : s.accepted ≤ s.tries
 
--- the numbers of a search
-abbrev pub summary_of : Effort → Improved → Summary
-summary_of effort i =
-    record { tries = effort.tries; accepted = i.accepted; start_low = i.start.low; start_high = i.start.high; upper = i.peak.high }
+-- the numbers of a search, with the lower number of all legal cycles
+abbrev pub summary_of : Effort → Improved → ℕ → Summary
+summary_of effort i lower = record {
+  tries = effort.tries;
+  accepted = i.accepted;
+  start_low = i.start.low;
+  start_high = i.start.high;
+  upper = i.peak.high;
+  lower = lower;
+}
 
 -- the files of a search in the order in which they are put
-abbrev pub files_of : List ℕ → List (List ℕ × List ℕ)
-files_of improved = (improved_file, improved) ∷ []
+abbrev pub files_of : List ℕ → List ℕ → List (List ℕ × List ℕ)
+files_of improved weights = (improved_file, improved) ∷ (weights_file, weights) ∷ []
 
--- the text of the cycle is put
-pub record PutsImproved (tables : TableParts) (cycle : List ℕ) (puts : List (List ℕ × List ℕ)) : Type 0 where
+-- the text of the cycle is put, and then what shows the lower number
+pub record PutsImproved (tables : TableParts) (cycle : List ℕ) (lower : ℕ) (puts : List (List ℕ × List ℕ)) : Type 0 where
   pub improved : List ℕ
   pub file : IsTextOf tables cycle improved
-  pub exact : puts ≡ files_of improved
+  pub weights : List ℕ
+  pub shown : IsShownBy tables lower weights
+  pub exact : puts ≡ files_of improved weights
 
 -- ---- what the commands come to
 
--- A better cycle than the start is put and said: its text, and then the numbers with its report.
+-- A better cycle than the start is put and said: its text with what shows the lower number, and then the numbers with its
+-- report. Each legal cycle peaks at least at the lower number.
 pub record ImprovesCycle (tables : TableParts) (tries : ℕ) (start : List ℕ) (o : Outcome) : Type 0 where
   pub cycle : List ℕ
   pub summary : Summary
   pub better : IsBetter tables start cycle summary
   pub tried : summary.tries ≡ tries
-  pub puts : PutsImproved tables cycle o.puts
+  pub lower : EachPeaksAt tables summary.lower
+  pub puts : PutsImproved tables cycle summary.lower o.puts
   pub prints : Prints (improved_text_of summary) tables cycle o.text
   pub status : o.status ≡ statuses.Done
 
@@ -89,17 +100,22 @@ new_may_answer _ = false
 
 -- ---- what they promise
 
--- The files are as before but for improved.csv, which is the text of a legal cycle and is read back as it. That cycle
--- peaks at most at the upper number, which is at most the high number of the start; the numbers of the start enclose its
--- peak; and behind the lines on them comes a report that holds of the cycle: each line of it encloses.
+-- The files are as before but for improved.csv and weights.txt. improved.csv is the text of a legal cycle and is read back
+-- as it. That cycle peaks at most at the upper number, which is at most the high number of the start; the numbers of the
+-- start enclose its peak. Each legal cycle peaks at least at the lower number. weights.txt has no bytes where that is 0, and
+-- else is a text that shows it. Behind the lines on the numbers comes a report that holds of the cycle: each line of it
+-- encloses.
 pub record PrintedImprovement (tables : TableParts) (tries : ℕ) (start : List ℕ) (before after : Files) (text : List ℕ) : Type 0 where
   pub cycle : List ℕ
   pub summary : Summary
   pub better : IsBetter tables start cycle summary
   pub tried : summary.tries ≡ tries
+  pub lower : EachPeaksAt tables summary.lower
   pub improved : List ℕ
   pub file : IsTextOf tables cycle improved
-  pub files : after ≡ put_all (files_of improved) before
+  pub weights : List ℕ
+  pub shown : IsShownBy tables summary.lower weights
+  pub files : after ≡ put_all (files_of improved weights) before
   pub report : ReportView
   pub exact : text ≡ improved_text_of summary report
   pub hold : ReportHolds tables cycle report

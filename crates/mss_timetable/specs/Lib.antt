@@ -1,5 +1,12 @@
 pub mod Summary
+pub mod Lower
 pub mod Improves
 pub mod ImproveLaws
+pub mod CheckTexts
+pub mod Check
+pub mod CheckLaws
+pub mod Exactness
+pub mod OneVerdict
+pub mod ImproveChecks
 pub mod Requests
 pub mod Examples

@@ -14,8 +14,11 @@ start_line s = named_text (codes "start peak ") s.start_low ++ named_text (codes
 unfoldable pub upper_line : Summary → List ℕ
 upper_line s = named_text (codes "upper ") s.upper ++ codes "\n"
 
+unfoldable pub lower_line : Summary → List ℕ
+lower_line s = named_text (codes "lower ") s.lower ++ codes "\n"
+
 unfoldable pub summary_text : Summary → List ℕ
-summary_text s = codes "mss improve 1\n" ++ tries_line s ++ start_line s ++ upper_line s
+summary_text s = codes "mss improve 1\n" ++ tries_line s ++ start_line s ++ upper_line s ++ lower_line s
 
 -- the lines, and then a report
 unfoldable pub improved_text_of : Summary → ReportView → List ℕ

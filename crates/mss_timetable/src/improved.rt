@@ -6,6 +6,7 @@ ghost use Rattle.mss_command.specs.Outcome.{outcome_of};
 ghost use Rattle.mss_timetable.specs.Improves.{ImprovesCycle, IsBetter, summary_of};
 
 use crate::files::files;
+use crate::lower::find_lower;
 use crate::summary::{Summary, improved_text};
 use mss_command::{Reply, Status};
 use mss_enclose::Kernel;
@@ -14,8 +15,8 @@ use mss_model::{Cycle, NoMemory, Tables};
 use mss_rules::Legal;
 use std::alloc::Global;
 
-/// The reply with the best cycle that a local search finds from a legal one: its file, and then its numbers with its
-/// report.
+/// The reply with the best cycle that a local search finds from a legal one: its file with that of the lower number, and
+/// then its numbers with its report.
 pub(crate) fn improved_reply<K: Kernel, P: Progress>(
     alloc: Global,
     kernel: &K,
@@ -29,9 +30,10 @@ pub(crate) fn improved_reply<K: Kernel, P: Progress>(
     ensures status { IfOk result (λ reply. reply.status ≡ Status.Done) }
 {
     let improved = improve(alloc, kernel, tables, &Legal, start, effort, progress)?;
-    let summary = summary_of(effort, &improved);
+    let lower = find_lower(alloc, kernel, tables)?;
+    let summary = summary_of(effort, &improved, lower.number);
     let text = improved_text(alloc, kernel, tables, &summary, &improved.cycle)?;
-    let puts = files(alloc, tables, &improved.cycle)?;
+    let puts = files(alloc, tables, &improved.cycle, lower)?;
     Ok(Reply {
         status: Status::Done,
         puts,
@@ -39,9 +41,9 @@ pub(crate) fn improved_reply<K: Kernel, P: Progress>(
     })
 }
 
-/// The numbers of a search.
-fn summary_of(effort: Effort, improved: &Improved) -> Summary
-    ensures { result ≡ summary_of effort improved.now }
+/// The numbers of a search, with the lower number of all legal cycles.
+fn summary_of(effort: Effort, improved: &Improved, lower: u32) -> Summary
+    ensures { result ≡ summary_of effort improved.now lower }
 {
     Summary {
         tries: effort.tries,
@@ -49,5 +51,6 @@ fn summary_of(effort: Effort, improved: &Improved) -> Summary
         start_low: improved.start.low,
         start_high: improved.start.high,
         upper: improved.peak.high,
+        lower,
     }
 }

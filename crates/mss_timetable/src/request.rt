@@ -15,6 +15,8 @@ pub enum Request {
     Cycle(Effort),
     /// A timetable from nothing.
     New(Effort),
+    /// What weights.txt proves of all timetables.
+    Check,
 }
 
 /// The request that the words make, if any.
@@ -22,6 +24,7 @@ pub(crate) fn request_of(words: &[String]) -> Option<Request>
     ensures { result ≡ request_in words.now }
 {
     match words {
+        [word] if word.as_str() == "check" => Some(Request::Check),
         [word, number, tries] if word.as_str() == "cycle" => {
             cycle_request(effort_of(number.as_str(), tries.as_str()))
         }

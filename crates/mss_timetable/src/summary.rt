@@ -4,7 +4,7 @@ ghost use Rattle.std.specs.List.{All};
 ghost use Rattle.mss_model.specs.PartsOf.{parts_of};
 ghost use Rattle.mss_model.specs.TableWords.{option_count, slot_count};
 ghost use Rattle.mss_report.specs.Evaluation.{Prints};
-ghost use Rattle.mss_timetable.specs.Summary.{improved_text_of, start_line, summary_text, tries_line, upper_line};
+ghost use Rattle.mss_timetable.specs.Summary.{improved_text_of, lower_line, start_line, summary_text, tries_line, upper_line};
 
 use mss_enclose::Kernel;
 use mss_model::{Cycle, NoMemory, Tables, Text};
@@ -25,6 +25,8 @@ pub struct Summary {
     pub start_high: u32,
     /// The improved cycle peaks at most at this number.
     pub upper: u32,
+    /// Every legal cycle peaks at least at this number.
+    pub lower: u32,
 }
 
 /// The lines of a summary, and then the evaluation of the improved cycle.
@@ -56,6 +58,7 @@ fn summary_text(alloc: Global, summary: &Summary) -> Result<Text, NoMemory>
     push_tries(alloc, &mut text, summary)?;
     push_start(alloc, &mut text, summary)?;
     push_upper(alloc, &mut text, summary)?;
+    push_lower(alloc, &mut text, summary)?;
     Ok(text)
 }
 
@@ -85,5 +88,14 @@ fn push_upper(alloc: Global, text: &mut Text, summary: &Summary) -> Result<(), N
     ensures { IfOk result (λ _. text.new ≡ text.old ++ upper_line summary.now) }
 {
     push_named(alloc, text, b"upper ", summary.upper)?;
+    text.push(b"\n")
+}
+
+/// Adds the line on the lower number.
+#[tactic(auto, unfolding(crate::specs::Summary::lower_line))]
+fn push_lower(alloc: Global, text: &mut Text, summary: &Summary) -> Result<(), NoMemory>
+    ensures { IfOk result (λ _. text.new ≡ text.old ++ lower_line summary.now) }
+{
+    push_named(alloc, text, b"lower ", summary.lower)?;
     text.push(b"\n")
 }

@@ -3,6 +3,7 @@ ghost use Rattle.std.specs.Prelude.{◌≡◌, None};
 ghost use Rattle.mss_command.specs.Answers.{EndsAs, EndsForMemory, EndsInReadFault, EndsInWriteFault, EndsPlainly, IsComplete, KeepsPromise};
 ghost use Rattle.mss_timetable.specs.Requests.{Defines, Lacks, Promised, may_end, request_in};
 
+use crate::check::WeightsCheck;
 use crate::from_nothing::FromNothing;
 use crate::from_today::FromToday;
 use crate::request::{Request, request_of};
@@ -12,7 +13,7 @@ use mss_enclose::Kernel;
 use mss_local::Progress;
 use std::alloc::Global;
 
-const USAGE: &[u8] = b"usage: mss_improve cycle NUMBER TRIES | new NUMBER TRIES\n";
+const USAGE: &[u8] = b"usage: mss_improve cycle NUMBER TRIES | new NUMBER TRIES | check\n";
 
 /// Runs the command that the words ask for: reads its files, puts and says what it comes to, and answers how it ended.
 /// The kernel makes the convolutions. The progress is told after each tenth of the tries; no clause speaks of it.
@@ -40,5 +41,6 @@ pub fn run<D: Desk, K: Kernel, P: Progress>(
         Some(Request::New(effort)) => {
             carry_out(alloc, &FromNothing { effort, progress }, desk, kernel)
         }
+        Some(Request::Check) => carry_out(alloc, &WeightsCheck, desk, kernel),
     }
 }

@@ -34,3 +34,6 @@ returns-in-Some-New-clause-write_fault g c =
 pub returns-in-Some-New-clause-complete : goal.returns-in-Some-New-clause-complete
 returns-in-Some-New-clause-complete g c =
     rw (← c.in-Some-New.ensures, c.in-Some-New.field-0-is, ← c.in-Some-New.effort-is) c.carry_out-in-Some-New.ensures.complete
+
+pub returns-in-Some-Check-clause-write_fault : goal.returns-in-Some-Check-clause-write_fault
+returns-in-Some-Check-clause-write_fault g c = rw (← c.in-Some-Check.ensures, c.in-Some-Check.field-0-is) c.carry_out-in-Some-Check.ensures.write_fault

@@ -1,0 +1,31 @@
+-- A lower number of all legal cycles, and the file that shows it.
+use Rattle.std.specs.Prelude.{◌≡◌, ◌⊎◌, ℕ, ◌≤◌, List, [], length, IsTrue, codes}
+use Rattle.mss_model.specs.Legality.{IsLegal}
+use Rattle.mss_model.specs.Peak.{peak}
+use Rattle.mss_model.specs.declared.parts.TableParts.{TableParts}
+use Rattle.mss_weights.specs.declared.weights.Weights.{Weights}
+use Rattle.mss_weights.specs.Shown.{is_shown}
+use Rattle.mss_weights.specs.WeightsText.{IsShort, weights_text}
+
+abbrev pub weights_file : List ℕ
+weights_file = codes "weights.txt"
+
+-- the most bytes of weights.txt
+abbrev pub weights_limit : ℕ
+weights_limit = 1048576
+
+-- each legal cycle peaks at least at the number, at the level of the tables
+abbrev pub EachPeaksAt : TableParts → ℕ → Type 0
+EachPeaksAt tables number = (cycle : List ℕ) → IsLegal tables cycle → number ≤ peak tables cycle tables.level 1000000
+
+-- the bytes are the text of weights that show this number under these tables
+pub record ShowsNumber (tables : TableParts) (number : ℕ) (bytes : List ℕ) : Type 0 where
+  pub weights : Weights
+  pub short : IsShort weights
+  pub text : bytes ≡ weights_text weights
+  pub shown : IsTrue (is_shown tables weights)
+  pub told : weights.number ≡ number
+
+-- the number 0 has no bytes, and every other has a text that shows it and is within the limit of `check`
+abbrev pub IsShownBy : TableParts → ℕ → List ℕ → Type 0
+IsShownBy tables number bytes = ((number ≡ 0) × (bytes ≡ [])) ⊎ (ShowsNumber tables number bytes × (length bytes ≤ weights_limit))
