@@ -1,5 +1,5 @@
 -- What is made of a cycle that was read, by the rule that it breaks.
-use Rattle.std.proofs.Common.{◌≡◌, ℕ, List, [], Some, None, inr, sym, subst, ◌∙◌}
+use Rattle.std.proofs.Common.{◌≡◌, ℕ, List, [], Some, None, Ok, refl, inr, sym, subst, ◌∙◌}
 use Rattle.std.proofs.lemmas.List.{append-nil}
 use Rattle.mss_model.specs.declared.parts.TableParts.{TableParts}
 use Rattle.mss_model.specs.Legality.{IsLegal, broken_rule}
@@ -11,7 +11,7 @@ use Rattle.mss_command.specs.Judging.{JudgesCycle, JudgesLegal}
 use Rattle.mss_command.specs.declared.legal_cycle.JudgedCycle.{JudgedCycle}
 use Rattle.mss_command.specs.declared.legal_cycle.JudgedCycle.TheVariants as judged
 use Rattle.mss_command.specs.Fetched.{Bytes}
-use Rattle.mss_tables.specs.CycleFile.{cycle_fault, cycle_in}
+use Rattle.mss_tables.specs.CycleFile.{cycle_at}
 use Rattle.mss_command.specs.Outcome.{Outcome, outcome_of, saying}
 
 pub refuses : (tables : TableParts) (cycle : List ℕ) (rule : ℕ) (o : Outcome) → broken_rule tables cycle ≡ Some rule → o ≡ saying statuses.Cycle (rule_text_of rule)
@@ -24,9 +24,8 @@ refuses tables cycle rule o broken is = record {
 }
 
 -- what is made of a cycle is made of the file that means it
-pub judged_file : (tables : TableParts) (bytes cycle : List ℕ) (j : JudgedCycle) → cycle_fault tables bytes ≡ None → cycle ≡ cycle_in tables bytes
-    → JudgesLegal tables cycle j → JudgesCycle tables (Bytes bytes) j
-judged_file tables bytes cycle (judged.Legal same) accepted meaning known =
-    record { accepted = accepted; meaning = known.0 ∙ meaning; legal = subst (IsLegal tables) (sym known.0) known.1 }
-judged_file tables bytes cycle (judged.Refused reply) accepted meaning known =
-    inr (record { accepted = accepted; illegal = subst (λ c. RefusesIllegal tables c (outcome_of reply)) meaning known })
+pub judged_file : (tables : TableParts) (bytes cycle : List ℕ) (j : JudgedCycle) → cycle_at tables bytes ≡ Ok cycle → JudgesLegal tables cycle j → JudgesCycle tables (Bytes bytes) j
+judged_file tables bytes cycle (judged.Legal same) means known =
+    record { accepted = rw means refl; meaning = rw means known.0; legal = subst (IsLegal tables) (sym known.0) known.1 }
+judged_file tables bytes cycle (judged.Refused reply) means known =
+    inr (record { accepted = rw means refl; illegal = rw means known })

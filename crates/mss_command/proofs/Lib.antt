@@ -5,3 +5,4 @@ pub mod Prepared
 pub mod Asked
 pub mod CyclesJudged
 mod ReadNumbers
+pub mod TablesRead

@@ -1,5 +1,6 @@
 -- A question about the cycle of cycle.csv comes to one outcome.
 use Rattle.std.proofs.Common.{◌≡◌, ℕ, List, Option, Some, None, inl, inr, sym, ap, subst, ◌∙◌}
+use Rattle.std.proofs.lemmas.Option.{none-some, same_Some}
 use Rattle.mss_model.specs.Legality.{IsLegal, broken_rule}
 use Rattle.mss_model.specs.declared.parts.TableParts.{TableParts}
 use Rattle.mss_rows.specs.declared.refusal.Fault.{Fault}
@@ -10,9 +11,6 @@ use Rattle.mss_command.specs.Cycles.{AsksCycle, GivesLegal, RefusesCycle, Refuse
 use Rattle.mss_command.specs.Fetched.{Fetched, Missing, TooLong, Bytes}
 use Rattle.mss_command.specs.Outcome.{Outcome, saying}
 
-no_fault : {A : Type 0} (x : Option A) (f : A) → x ≡ None → x ≡ Some f → ⊥
-no_fault x f p q = let both : None ≡ Some f = sym p ∙ q in cc
-
 -- a file gives one legal cycle, or is refused
 same_given : (tables : TableParts) (file : Fetched) (c d : List ℕ) → GivesLegal tables file c → GivesLegal tables file d → c ≡ d
 same_given tables Missing c d a b = absurd a
@@ -22,7 +20,7 @@ same_given tables (Bytes bytes) c d a b = a.meaning ∙ sym b.meaning
 given_or_refused : (tables : TableParts) (file : Fetched) (c : List ℕ) (o : Outcome) → GivesLegal tables file c → RefusesCycle tables file o → ⊥
 given_or_refused tables Missing c o given refused = given
 given_or_refused tables TooLong c o given refused = given
-given_or_refused tables (Bytes bytes) c o given (inl r) = no_fault (cycle_fault tables bytes) _ given.accepted r.first
+given_or_refused tables (Bytes bytes) c o given (inl r) = none-some _ (sym given.accepted ∙ r.first)
 given_or_refused tables (Bytes bytes) c o given (inr r) = r.illegal.illegal (subst (IsLegal tables) given.meaning given.legal)
 
 -- the refusal is one
@@ -32,9 +30,6 @@ same_illegal tables cycle o p r s =
     let rule : r.rule ≡ s.rule = cc in
     r.refuses ∙ ap (λ n. saying statuses.Cycle (rule_text_of n)) rule ∙ sym s.refuses
 
-same_value : {A : Type 0} (x : Option A) (f g : A) → x ≡ Some f → x ≡ Some g → f ≡ g
-same_value x f g p q = let both : Some f ≡ Some g = sym p ∙ q in cc
-
 abbrev told : Fault → Outcome
 told fault = saying statuses.Cycle (cycle_fault_text_of (record { row = fault.row; kind = fault.kind }))
 
@@ -42,14 +37,14 @@ same_fault : (tables : TableParts) (bytes : List ℕ) (o p : Outcome) → Refuse
 same_fault tables bytes o p r s =
     let f : Fault = record { row = r.fault.row; kind = r.fault.kind } in
     let g : Fault = record { row = s.fault.row; kind = s.fault.kind } in
-    r.refuses ∙ ap told (same_value (cycle_fault tables bytes) f g r.first s.first) ∙ sym s.refuses
+    r.refuses ∙ ap told (same_Some f g (sym r.first ∙ s.first)) ∙ sym s.refuses
 
 same_refusal : (tables : TableParts) (file : Fetched) (o p : Outcome) → RefusesCycle tables file o → RefusesCycle tables file p → o ≡ p
 same_refusal tables Missing o p r s = absurd r
 same_refusal tables TooLong o p r s = r ∙ sym s
 same_refusal tables (Bytes bytes) o p (inl r) (inl s) = same_fault tables bytes o p r s
-same_refusal tables (Bytes bytes) o p (inl r) (inr s) = absurd (no_fault (cycle_fault tables bytes) _ s.accepted r.first)
-same_refusal tables (Bytes bytes) o p (inr r) (inl s) = absurd (no_fault (cycle_fault tables bytes) _ r.accepted s.first)
+same_refusal tables (Bytes bytes) o p (inl r) (inr s) = absurd (none-some _ (sym s.accepted ∙ r.first))
+same_refusal tables (Bytes bytes) o p (inr r) (inl s) = absurd (none-some _ (sym r.accepted ∙ s.first))
 same_refusal tables (Bytes bytes) o p (inr r) (inr s) = same_illegal tables (cycle_in tables bytes) o p r.illegal s.illegal
 
 -- where the answers to a legal cycle are one

@@ -1,5 +1,6 @@
 -- The words of a question come to one outcome, and nothing lacks where all was read.
 use Rattle.std.proofs.Common.{◌≡◌, ℕ, List, Option, Some, None, inl, inr, refl, sym, ap, ◌∙◌}
+use Rattle.std.proofs.lemmas.Option.{none-some, same_Some}
 use Rattle.mss_model.specs.declared.parts.TableParts.{TableParts}
 use Rattle.mss_model.specs.declared.faults.TableFault.{TableFault}
 use Rattle.mss_desk.specs.Desk.{Files}
@@ -15,19 +16,13 @@ use Rattle.mss_command.specs.Questions.{AskLacks, Asks, AsksGathered, LacksGathe
 abbrev pub IsOneAnswer : (TableParts → Fetched → Outcome → Type 0) → Type 0
 IsOneAnswer answers = (tables : TableParts) (file : Fetched) (o p : Outcome) → answers tables file o → answers tables file p → o ≡ p
 
-same_fault : (x y : Option TableFault) (f g : TableFault) → x ≡ y → x ≡ Some f → y ≡ Some g → f ≡ g
-same_fault x y f g e p q = let both : Some f ≡ Some g = sym p ∙ e ∙ q in cc
-
-accepted_and_refused : (x : Option TableFault) (f : TableFault) → x ≡ None → x ≡ Some f → ⊥
-accepted_and_refused x f p q = let both : None ≡ Some f = sym p ∙ q in cc
-
 module _ (answers : TableParts → Fetched → Outcome → Type 0) (one : IsOneAnswer answers) (o p : Outcome) where
   one_gathered : (g : Gathered) (file : Fetched) → AsksGathered answers g file o → AsksGathered answers g file p → o ≡ p
   one_gathered (AllRead files) file (inl a) (inl b) = one (tables_in files) file o p a.answered b.answered
-  one_gathered (AllRead files) file (inl a) (inr r) = absurd (accepted_and_refused (tables_fault files) r.fault a.accepted r.first)
-  one_gathered (AllRead files) file (inr r) (inl b) = absurd (accepted_and_refused (tables_fault files) r.fault b.accepted r.first)
+  one_gathered (AllRead files) file (inl a) (inr r) = absurd (none-some r.fault (sym a.accepted ∙ r.first))
+  one_gathered (AllRead files) file (inr r) (inl b) = absurd (none-some r.fault (sym b.accepted ∙ r.first))
   one_gathered (AllRead files) file (inr r) (inr s) =
-      r.refuses ∙ ap (λ f. saying statuses.Tables (fault_text_of f)) (same_fault (tables_fault files) (tables_fault files) r.fault s.fault refl r.first s.first) ∙ sym s.refuses
+      r.refuses ∙ ap (λ f. saying statuses.Tables (fault_text_of f)) (same_Some r.fault s.fault (sym r.first ∙ s.first)) ∙ sym s.refuses
   one_gathered Lacking file a b = absurd a
   one_gathered (Long number) file a b = a ∙ sym b
 

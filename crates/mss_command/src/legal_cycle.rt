@@ -29,7 +29,7 @@ const TOO_LONG: CycleFault = CycleFault {
 
 /// The legal cycle that a file means under these tables, or the reply to the first fault of the file or to the least rule
 /// that its cycle breaks.
-#[tactic(auto, using(crate::proofs::CyclesJudged::judged_file))]
+#[tactic(auto, using(crate::proofs::CyclesJudged::judged_file, crate::proofs::TablesRead::cycle_refused))]
 pub fn judge_cycle(
     alloc: Global,
     tables: &Tables,

@@ -18,6 +18,7 @@ pub(crate) enum Judged {
 }
 
 /// The tables of the ten files, or the reply to the file that is too long or to the first fault of all.
+#[tactic(auto, using(crate::proofs::TablesRead::tables_meant, crate::proofs::TablesRead::tables_refused))]
 pub(crate) fn tables_reply(alloc: Global, gathering: &Gathering) -> Result<Judged, NoMemory>
     requires { AreWithinLimit gathering.now }
     ensures { IfOk result (Judges (gathered_of gathering.now)) }

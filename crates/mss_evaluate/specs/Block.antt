@@ -1,11 +1,11 @@
 -- What the command `block` comes to, and what it promises.
-use Rattle.std.specs.Prelude.{◌≡◌, ◌⊎◌, ℕ, Bool, true, false, List, [], ◌++◌, Some, codes, flat_map, map}
+use Rattle.std.specs.Prelude.{◌≡◌, ◌⊎◌, ℕ, Bool, true, false, List, [], ◌++◌, Some, Ok, Err, codes, flat_map, map}
 use Rattle.std.specs.List.{All}
 use Rattle.std.specs.FinMap.{get}
 use Rattle.mss_model.specs.BlockAtAge.{BlockView}
 use Rattle.mss_model.specs.declared.faults.TableFault.{TableFault}
 use Rattle.mss_desk.specs.Desk.{Files, Content}
-use Rattle.mss_tables.specs.BlockFile.{MeansBlock, block_fault_in}
+use Rattle.mss_tables.specs.BlockFile.{block_at}
 use Rattle.mss_report.specs.BlockText.{BlockLine, BlockLineHolds, PrintsBlock, block_line_text, block_subjects, subject}
 use Rattle.mss_report.specs.Faults.{fault_text_of}
 use Rattle.mss_command.specs.declared.status.Status.{Status}
@@ -20,7 +20,7 @@ block_file = codes "block.csv"
 -- the text of the block that the file means is said
 pub record PrintsFile (bytes : List ℕ) (o : Outcome) : Type 0 where
   pub block : BlockView
-  pub means : MeansBlock bytes block
+  pub means : block_at bytes ≡ Ok block
   pub prints : PrintsBlock block o.text
   pub status : o.status ≡ statuses.Done
   pub puts : o.puts ≡ []
@@ -28,7 +28,7 @@ pub record PrintsFile (bytes : List ℕ) (o : Outcome) : Type 0 where
 -- the first fault of the file is said
 pub record RefusesFile (bytes : List ℕ) (o : Outcome) : Type 0 where
   pub fault : TableFault
-  pub first : block_fault_in bytes ≡ Some fault
+  pub first : block_at bytes ≡ Err fault
   pub refuses : o ≡ saying statuses.Tables (fault_text_of fault)
 
 -- what is said where block.csv was read like this
@@ -49,7 +49,7 @@ pub record PrintedBlock (files : Files) (text : List ℕ) : Type 0 where
   pub bytes : List ℕ
   pub stored : get files block_file ≡ Some bytes
   pub block : BlockView
-  pub means : MeansBlock bytes block
+  pub means : block_at bytes ≡ Ok block
   pub lines : List BlockLine
   pub exact : text ≡ codes "mss block 1\n" ++ flat_map block_line_text lines
   pub subjects : map subject lines ≡ block_subjects block

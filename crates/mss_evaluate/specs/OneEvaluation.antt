@@ -1,12 +1,12 @@
 -- `block`, `evaluate` and `evaluate json` come to one outcome over the same files.
-use Rattle.std.proofs.Common.{◌≡◌, ℕ, ◌<◌, ◌++◌, List, [], ◌∷◌, Option, Some, None, inl, inr, refl, sym, ap, subst, ◌∙◌, arith}
+use Rattle.std.proofs.Common.{◌≡◌, ℕ, ◌<◌, ◌++◌, List, [], ◌∷◌, Option, Some, None, Result, Ok, Err, inl, inr, refl, sym, ap, subst, ◌∙◌, arith}
 use Rattle.std.specs.List.{All}
 use Rattle.std.proofs.lemmas.List.Elements.{All-head, All-tail}
 use Rattle.mss_model.specs.declared.parts.TableParts.{TableParts}
 use Rattle.mss_pctl.specs.CensusPeak.{IsCyclePeak, census_high}
 use Rattle.mss_pctl.specs.Peaks.{IsFirstLargest, Place, peak_places}
 use Rattle.mss_pctl.specs.declared.peak.Peak.{Peak}
-use Rattle.mss_tables.specs.BlockFile.{block_fault_in}
+use Rattle.mss_tables.specs.BlockFile.{block_at}
 use Rattle.mss_report.specs.BlockText.{block_text_of}
 use Rattle.mss_report.specs.Evaluation.{Prints, report_of}
 use Rattle.mss_report.specs.Faults.{fault_text_of}
@@ -78,17 +78,22 @@ evaluation_is_one form tables file o p a b = one_cycle (EvaluatesCycle form tabl
 
 -- ---- and so is that of a block
 
-no_fault : {A : Type 0} (x : Option A) (f : A) → x ≡ None → x ≡ Some f → ⊥
-no_fault x f p q = let both : None ≡ Some f = sym p ∙ q in cc
+-- a reading gives one meaning or one fault
+same_meaning : {T F : Type 0} (a b : T) (reading : Result T F) → reading ≡ Ok a → reading ≡ Ok b → a ≡ b
+same_meaning a b reading one other = let same = sym one ∙ other in cc
+
+same_fault : {T F : Type 0} (a b : F) (reading : Result T F) → reading ≡ Err a → reading ≡ Err b → a ≡ b
+same_fault a b reading one other = let same = sym one ∙ other in cc
+
+meaning_or_fault : {T F : Type 0} (a : T) (b : F) (reading : Result T F) → reading ≡ Ok a → reading ≡ Err b → ⊥
+meaning_or_fault a b reading one other = let same = sym one ∙ other in cc
 
 pub block_is_one : (file : Fetched) (o p : Outcome) → BlockDefines file o → BlockDefines file p → o ≡ p
 block_is_one Missing o p a b = absurd a
 block_is_one TooLong o p a b = a ∙ sym b
 block_is_one (Bytes bytes) o p (inl a) (inl b) =
-    same_outcome o p (a.status ∙ sym b.status) (a.puts ∙ sym b.puts) (a.prints.exact ∙ ap block_text_of (a.means.meaning ∙ sym b.means.meaning) ∙ sym b.prints.exact)
-block_is_one (Bytes bytes) o p (inl a) (inr r) = absurd (no_fault (block_fault_in bytes) r.fault a.means.accepted r.first)
-block_is_one (Bytes bytes) o p (inr r) (inl b) = absurd (no_fault (block_fault_in bytes) r.fault b.means.accepted r.first)
+    same_outcome o p (a.status ∙ sym b.status) (a.puts ∙ sym b.puts) (a.prints.exact ∙ ap block_text_of (same_meaning a.block b.block (block_at bytes) a.means b.means) ∙ sym b.prints.exact)
+block_is_one (Bytes bytes) o p (inl a) (inr r) = absurd (meaning_or_fault a.block r.fault (block_at bytes) a.means r.first)
+block_is_one (Bytes bytes) o p (inr r) (inl b) = absurd (meaning_or_fault b.block r.fault (block_at bytes) b.means r.first)
 block_is_one (Bytes bytes) o p (inr r) (inr s) =
-    let first : Some r.fault ≡ Some s.fault = sym r.first ∙ s.first in
-    let same : r.fault ≡ s.fault = cc in
-    r.refuses ∙ ap (λ f. saying statuses.Tables (fault_text_of f)) same ∙ sym s.refuses
+    r.refuses ∙ ap (λ f. saying statuses.Tables (fault_text_of f)) (same_fault r.fault s.fault (block_at bytes) r.first s.first) ∙ sym s.refuses
