@@ -6,6 +6,7 @@ ghost use Rattle.mss_model.specs.PartsOf.{parts_of};
 ghost use Rattle.mss_model.specs.TableWords.{option_count, slot_count};
 
 mod alike;
+mod bounds;
 mod census;
 mod certificates;
 mod chances;

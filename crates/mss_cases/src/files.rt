@@ -11,7 +11,7 @@ use std::io::ErrorKind;
 pub type FileSet = BTreeMap<String, Vec<u8>>;
 
 /// The names of all files that a command of a program reads or puts.
-pub const NAMES: [&str; 15] = [
+pub const NAMES: [&str; 16] = [
     "settings.toml",
     "rooms.csv",
     "specialties.csv",
@@ -27,6 +27,7 @@ pub const NAMES: [&str; 15] = [
     "planned.csv",
     "certificate.txt",
     "improved.csv",
+    "weights.txt",
 ];
 
 /// The files at entry: those of the folder, without those that are missing, and those of the case's own.

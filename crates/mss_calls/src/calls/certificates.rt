@@ -10,6 +10,7 @@ fn a_certificate_is_read_and_written(rt: HostRuntime) {
     let Ok(certificate) = read(rt.alloc(), TEXT) else {
         panic!(rt; "refused");
     };
+    assert_eq!(rt; certificate.version, 1);
     assert_eq!(rt;
         (certificate.slots, certificate.options, certificate.level),
         (4, 2, 500_000)
