@@ -1,8 +1,9 @@
 // A plain Rust program that does what `mss check` does, and with the word `alike` what `mss check alike` does: the
 // yardstick of its speed. It reads the settings and tables of the current folder without testing them, reads
-// certificate.txt with its first fault, walks over its lines with the same full lists, made anew for each line that has a
-// number, and says the same text with the same status.
+// certificate.txt with its first fault, walks over its lines with the same full lists, and in version 2 with the same floors, made
+// anew for each line that has a number, and says the same text with the same status.
 mod plain;
+use plain::floors::{Floors, forced};
 use plain::lists::{self, Lists, UNIT, first_reaching};
 use plain::rules::{dead, dead_alike};
 use plain::tables::{Tables, read_tables};
@@ -26,6 +27,7 @@ enum End {
 }
 
 struct Certificate {
+    version: u32,
     head: (u32, u32, u32),
     tree: Vec<Line>,
     end: End,
@@ -98,14 +100,15 @@ fn row_of(line: &[u8]) -> Option<Row> {
 }
 
 fn read(bytes: &[u8]) -> Result<Certificate, Fault> {
-    let rest = bytes.strip_prefix(b"mss certificate 1\n").ok_or((1, 2))?;
+    let versions = [(1, b"mss certificate 1\n"), (2, b"mss certificate 2\n")];
+    let (version, rest) = versions.iter().find_map(|(version, line)| Some((*version, bytes.strip_prefix(&line[..])?))).ok_or((1, 2))?;
     let (line, mut rest) = first_line(rest).ok_or((2, 3))?;
     let head = head_of(line).ok_or((2, 3))?;
     let mut tree = vec![];
     while let Some((line, others)) = first_line(rest) {
         match row_of(line) {
             Some(Row::Tree(line)) => tree.push(line),
-            Some(Row::Last(end)) if others.is_empty() => return Ok(Certificate { head, tree, end }),
+            Some(Row::Last(end)) if others.is_empty() => return Ok(Certificate { version, head, tree, end }),
             Some(Row::Last(_)) => return Err((tree.len() + 4, 6)),
             None => return Err((tree.len() + 3, 4)),
         }
@@ -118,6 +121,7 @@ struct Walk<'a> {
     tables: &'a Tables,
     lists: Lists,
     dead: fn(&Tables, &[u8]) -> u8,
+    floors: Option<Floors>,
     prefix: Vec<u8>,
     value: Vec<u64>,
     raised: Vec<u64>,
@@ -125,15 +129,18 @@ struct Walk<'a> {
 }
 
 impl Walk<'_> {
-    // The low number of the full list of the prefix.
+    // The low number of the full list of the prefix, in version 2 with its floors.
     fn low(&mut self, ward: u32, day: u32) -> u32 {
-        let Walk { tables, lists, prefix, value, raised, scratch, .. } = self;
+        let Walk { tables, lists, floors, prefix, value, raised, scratch, .. } = self;
         value.clear();
         value.push(UNIT);
         for (slot, option) in prefix.iter().enumerate() {
             if let Some(part) = lists::part(tables, lists, ward as usize, day as usize, slot, *option) {
                 lists::push_full(value, part, raised, scratch);
             }
+        }
+        if let Some(floors) = floors {
+            floors.push(tables, lists, prefix, &forced(tables, prefix), ward as usize, day as usize, value, raised, scratch);
         }
         first_reaching(value, 0, tables.level) as u32
     }
@@ -183,7 +190,8 @@ fn verdict(tables: &Tables, dead: fn(&Tables, &[u8]) -> u8, certificate: &Certif
         return Err((2, 1));
     }
     let lists = lists::steady_lists(tables);
-    let mut walk = Walk { tables, lists, dead, prefix: vec![], value: vec![], raised: vec![], scratch: vec![] };
+    let floors = (certificate.version == 2).then(Floors::default);
+    let mut walk = Walk { tables, lists, dead, floors, prefix: vec![], value: vec![], raised: vec![], scratch: vec![] };
     let (mut complete, mut least) = (false, None::<u32>);
     for (at, line) in certificate.tree.iter().enumerate() {
         if complete {

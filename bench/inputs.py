@@ -1,39 +1,94 @@
-"""What the scripts of bench/ run on: the program, and folders of files with the words of a command, each the smallest that
+"""What the scripts of bench/ run on: the programs, and folders of files with the words of a command, each the smallest that
 shows its command at work. They are those of the worked cases."""
 import os
 import shutil
+import subprocess
 import sys
+from typing import NamedTuple
 
 TOP = os.path.dirname(os.path.dirname(os.path.abspath(__file__)))
 MSS = os.environ.get("MSS", f"{TOP}/bin/mss")
+MSS_IMPROVE = os.environ.get("MSS_IMPROVE", f"{TOP}/bin/mss_improve")
+PROGRAMS = {"mss": os.path.abspath(MSS), "mss_improve": os.path.abspath(MSS_IMPROVE)}
 DATA = f"{TOP}/crates/mss_cases/data"
 
 TABLES = ["settings.toml"] + [
     f"{name}.csv" for name in "rooms specialties patients stays equipment needs unsuited fixed barred".split()
 ]
-# the files that a command puts, in their order
-PUTS = {"plan": ["planned.csv", "certificate.txt"], "generate": TABLES}
 # the file that a put writes first
 UNFINISHED = "mss.unfinished"
 
-# the words of a command, and the folder that it runs in
+# weights that are accepted under the tables of sets/four_slots (docs/FORMATS.md has them)
+WEIGHTS = b"mss weights 1\nnumber 2 power 3000 reach 2839\nplaces 1 1\nblocks 5990\nslots\nkinds\n"
+
+
+class Input(NamedTuple):
+    """A program, the words of a command, and the folder that it runs in."""
+
+    program: str
+    words: list
+    folder: str
+
+    @property
+    def path(self):
+        return PROGRAMS[self.program]
+
+    @property
+    def puts(self):
+        return puts_of(self.program, self.words)
+
+    @property
+    def name(self):
+        return " ".join([self.program, *self.words])
+
+
+def checks_weights():
+    """Whether mss_improve knows weights: it puts weights.txt, and has the command check."""
+    if not os.path.exists(MSS_IMPROVE):
+        return False
+    return b" check" in subprocess.run([MSS_IMPROVE], capture_output=True, check=False).stdout
+
+
+HAS_WEIGHTS = checks_weights()
+IMPROVED = ["improved.csv", "weights.txt"] if HAS_WEIGHTS else ["improved.csv"]
+
+
+def puts_of(program, words):
+    """The files that a command puts, in their order."""
+    first = words[0] if words else ""
+    if program == "mss_improve":
+        return IMPROVED if first in ("cycle", "new") else []
+    return {"plan": ["planned.csv", "certificate.txt"], "generate": TABLES}.get(first, [])
+
+
 INPUTS = [
-    (["block"], "block"),
-    (["evaluate"], "one_block"),
-    (["evaluate", "json"], "one_block"),
-    (["plan"], "four_slots"),
-    (["check"], "four_slots"),
-    (["generate", "7", "small"], "four_slots"),
+    Input("mss", ["block"], "block"),
+    Input("mss", ["evaluate"], "one_block"),
+    Input("mss", ["evaluate", "json"], "one_block"),
+    Input("mss", ["plan"], "four_slots"),
+    Input("mss", ["plan", "alike"], "alike_rooms"),
+    Input("mss", ["check"], "four_slots"),
+    Input("mss", ["check", "alike"], "alike_rooms"),
+    Input("mss", ["generate", "7", "small"], "four_slots"),
+    Input("mss_improve", ["cycle", "1", "50"], "one_block"),
+    Input("mss_improve", ["new", "7", "20"], "four_slots"),
 ]
+if HAS_WEIGHTS:
+    INPUTS.append(Input("mss_improve", ["check"], "four_slots"))
 
 
 def fill(folder, name):
-    """Makes the folder hold these files, and a certificate and an older plan where it has neither."""
+    """Makes the folder hold these files, and what the commands read or replace where it has none of it."""
     shutil.rmtree(folder, ignore_errors=True)
     shutil.copytree(f"{DATA}/sets/{name}", folder)
-    if name == "four_slots":
-        shutil.copy(f"{DATA}/texts/four_slots_certificate.txt", f"{folder}/certificate.txt")
+    certificate = f"{DATA}/texts/{name}_certificate.txt"
+    if os.path.exists(certificate):
+        shutil.copy(certificate, f"{folder}/certificate.txt")
         write(f"{folder}/planned.csv", b"day,room,specialty\n2,A,X\n2,B,X\n")
+    if name == "four_slots":
+        write(f"{folder}/weights.txt", WEIGHTS)
+    if name in ("four_slots", "one_block"):
+        write(f"{folder}/improved.csv", b"day,room,specialty\n1,A,-\n")
 
 
 def write(path, content):
@@ -55,13 +110,15 @@ def holds(folder):
 
 
 def asked(script):
-    """The words of a command and its folder, as `SCRIPT FOLDER WORD..` has them, or all inputs where there are none."""
-    if len(sys.argv) == 1:
+    """What `SCRIPT FOLDER [mss_improve] WORD..` asks for, or all inputs where there are no words."""
+    words = sys.argv[1:]
+    if not words:
         return INPUTS
-    if len(sys.argv) == 2 or not os.path.isdir(sys.argv[1]):
+    if len(words) == 1 or not os.path.isdir(words[0]):
         print(script.strip())
         sys.exit(1)
-    return [(sys.argv[2:], os.path.abspath(sys.argv[1]))]
+    program = words.pop(1) if words[1] in PROGRAMS else "mss"
+    return [Input(program, words[1:], os.path.abspath(words[0]))]
 
 
 def put_in(folder, given):

@@ -1,11 +1,14 @@
 // A plain Rust program that does what `mss plan` does: the yardstick of its speed. It reads the settings and tables of the
 // current folder without testing them, makes the same search with the same full lists, the same form of convolution, 16
-// carried prefixes and a heap, writes planned.csv and certificate.txt, and says the same text with the same status.
+// carried prefixes, floors and a heap, writes planned.csv and certificate.txt, and says the same text with the same status.
 //
 // The word `alike` stands for `mss plan alike`. Other words change the bounds, and nothing else: `empty` makes each bound
 // from the empty prefix, and `orphans` doesn't bring back the lists of a parent that isn't carried any more before its
-// children are bounded. On standard error it says how many bounds it made, and how often they called the convolution.
+// children are bounded; `unfloored` bounds without floors, and writes version 1. On standard error it says how many bounds
+// it made, how often they called the convolution, and how often the last options of all bounded prefixes alone would call
+// it, below which no carried lists can go.
 mod plain;
+use plain::floors::{Floors, forced};
 use plain::lists::{self, CALLS, Lists, UNIT, first_reaching, peak_of, push_full};
 use plain::report::{report, report_text};
 use plain::rules::{dead, dead_alike};
@@ -16,6 +19,9 @@ use std::fmt::Write as _;
 use std::io::Write as _;
 
 const PLACES: usize = 16;
+
+// 960 blocks of up to 16 patients
+const ROOM: usize = 15_361;
 
 #[derive(Clone, Copy)]
 enum Line {
@@ -33,10 +39,22 @@ struct Bound {
     day: u32,
 }
 
-#[derive(Clone)]
 struct Carried {
     prefix: Vec<u8>,
     lists: Vec<Vec<u64>>,
+}
+
+impl Carried {
+    // The empty prefix, with room for so many options and numbers.
+    fn make(slots: usize, spots: usize, room: usize) -> Carried {
+        let list = || {
+            let mut list = vec![0; room];
+            list[0] = UNIT;
+            list.truncate(1);
+            list
+        };
+        Carried { prefix: Vec::with_capacity(slots), lists: (0..spots).map(|_| list()).collect() }
+    }
 }
 
 #[derive(PartialEq)]
@@ -55,20 +73,31 @@ struct Bounder<'a> {
     working: Carried,
     how: How,
     dead: fn(&Tables, &[u8]) -> u8,
+    floors: Option<Floors>,
     value: Vec<u64>,
     raised: Vec<u64>,
     scratch: Vec<u64>,
     bounds: u64,
     calls: u64,
+    least: u64,
+}
+
+// How often the convolution was called.
+fn calls() -> u64 {
+    CALLS.with(|calls| calls.get())
 }
 
 impl<'a> Bounder<'a> {
-    fn make(tables: &'a Tables, how: How, dead: fn(&Tables, &[u8]) -> u8) -> Bounder<'a> {
+    fn make(tables: &'a Tables, how: How, dead: fn(&Tables, &[u8]) -> u8, floors: Option<Floors>) -> Bounder<'a> {
         let watched = (1..=tables.wards.len()).filter(|ward| tables.watched[*ward]);
         let spots: Vec<_> = watched.flat_map(|ward| (1..=tables.days).map(move |day| (ward, day))).collect();
-        let empty = Carried { prefix: vec![], lists: vec![vec![UNIT]; spots.len()] };
         let lists = lists::steady_lists(tables);
-        Bounder { tables, lists, spots, carried: vec![empty.clone(); PLACES], working: empty, how, dead, value: vec![], raised: vec![], scratch: vec![], bounds: 0, calls: 0 }
+        let longest = lists.iter().flatten().map(Vec::len).max().unwrap_or(1);
+        let room = ROOM.min(1 + tables.slots() * (longest - 1));
+        let make = || Carried::make(tables.slots(), spots.len(), room);
+        let (carried, working) = ((0..PLACES).map(|_| make()).collect(), make());
+        let value = || Vec::with_capacity(ROOM);
+        Bounder { tables, lists, carried, working, spots, how, dead, floors, value: value(), raised: value(), scratch: value(), bounds: 0, calls: 0, least: 0 }
     }
 
     fn longest(&self, prefix: &[u8]) -> usize {
@@ -114,22 +143,29 @@ impl<'a> Bounder<'a> {
     }
 
     fn bound(&mut self, prefix: &[u8]) -> Bound {
-        let before = CALLS.with(|calls| calls.get());
+        let before = calls();
         if self.how == How::Empty {
             self.fill(prefix, false);
         } else {
             self.carry(prefix);
         }
-        let lists = if self.how == How::Empty { &self.working.lists } else { &self.carried[0].lists };
+        let Bounder { tables, lists, spots, carried, working, how, floors, value, raised, scratch, .. } = self;
+        let held = if *how == How::Empty { &working.lists } else { &carried[0].lists };
+        let forced = if floors.is_some() { forced(tables, prefix) } else { vec![] };
         let mut bound = Bound { number: 0, ward: 0, day: 0 };
-        for ((ward, day), list) in self.spots.iter().zip(lists) {
-            let number = first_reaching(list, 0, self.tables.level) as u32;
+        for ((ward, day), list) in spots.iter().zip(held) {
+            value.clear();
+            value.extend_from_slice(list);
+            if let Some(floors) = floors {
+                floors.push(tables, lists, prefix, &forced, *ward, *day, value, raised, scratch);
+            }
+            let number = first_reaching(value, 0, tables.level) as u32;
             if bound.ward == 0 || bound.number < number {
                 bound = Bound { number, ward: *ward as u32, day: *day as u32 };
             }
         }
         self.bounds += 1;
-        self.calls += CALLS.with(|calls| calls.get()) - before;
+        self.calls += calls() - before;
         bound
     }
 
@@ -139,9 +175,17 @@ impl<'a> Bounder<'a> {
             return Line::Dead { rule: u32::from(rule) };
         }
         if self.how == How::Carried && self.longest(parent) < parent.len() {
-            self.bound(parent);
+            let before = calls();
+            self.carry(parent);
+            self.calls += calls() - before;
         }
+        self.least += prefix.last().map_or(0, |option| self.calls_for(*option));
         Line::Open { bound: self.bound(prefix) }
+    }
+
+    // How many places an option adds to.
+    fn calls_for(&self, option: u8) -> u64 {
+        if option > 0 && self.tables.watched[self.tables.ward_of[option as usize]] { self.tables.days as u64 } else { 0 }
     }
 }
 
@@ -217,9 +261,9 @@ impl Search {
     }
 
     // The text of the certificate, and its lower number.
-    fn certificate(&self, tables: &Tables) -> (String, Option<u32>) {
+    fn certificate(&self, tables: &Tables, version: u32) -> (String, Option<u32>) {
         let (mut text, mut least, mut at) = (String::new(), None::<u32>, 0);
-        writeln!(text, "mss certificate 1\nslots {} options {} level {}", tables.slots(), tables.specialties.len() + 1, tables.level).unwrap();
+        writeln!(text, "mss certificate {version}\nslots {} options {} level {}", tables.slots(), tables.specialties.len() + 1, tables.level).unwrap();
         for _ in 0..self.nodes.len() {
             let node = &self.nodes[at];
             let counted = match node.line {
@@ -264,13 +308,15 @@ fn main() {
     let has = |word: &str| words.iter().any(|it| it == word);
     let how = if has("empty") { How::Empty } else if has("orphans") { How::Orphans } else { How::Carried };
     let tables = read_tables();
-    let mut bounder = Bounder::make(&tables, how, if has("alike") { dead_alike } else { dead });
+    let floors = (!has("unfloored")).then(Floors::default);
+    let version = if floors.is_some() { 2 } else { 1 };
+    let mut bounder = Bounder::make(&tables, how, if has("alike") { dead_alike } else { dead }, floors);
     let mut search = Search::start(&mut bounder);
     let (mut value, mut scratch) = (vec![], vec![]);
     while search.turns < tables.budget && !search.queue.is_empty() {
         search.turn(&mut bounder, &mut value, &mut scratch);
     }
-    let (certificate, lower) = search.certificate(&tables);
+    let (certificate, lower) = search.certificate(&tables, version);
     let (spent, upper) = (!search.queue.is_empty(), search.best.as_ref().map(|best| best.0));
     let (word, status) = match (spent, upper) {
         (true, Some(_)) => ("spent", 6),
@@ -286,6 +332,6 @@ fn main() {
     std::fs::write("planned.csv", planned).unwrap();
     std::fs::write("certificate.txt", certificate).unwrap();
     std::io::stdout().write_all(text.as_bytes()).unwrap();
-    eprintln!("bounds {} calls {}", bounder.bounds, bounder.calls);
+    eprintln!("bounds {} calls {} least {}", bounder.bounds, bounder.calls, bounder.least);
     std::process::exit(status);
 }

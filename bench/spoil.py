@@ -19,6 +19,13 @@ VALUES = [
     b"0b11100", b"1_000", b"+7", b'"""a"""', b'"\\u00e9"', b'"\\ud800"', b'"\\e"', b"[" * 200, b"{a=" * 200, b"a.b.c = 1",
 ]
 KEYS = [b"version", b"days", b"level", b"report", b"watch", b"budget", b"parts", b'"days"', b"'level'", b"a.b", b"", b"days.a", b"[days]"]
+WEIGHTS_LINES = [
+    b"mss weights 1", b"mss weights 2", b"number 2 power 3000 reach 2839", b"number 0 power 3000 reach 2839",
+    b"number 1 power 131072 reach 131072", b"number 1 power 131073 reach 0", b"number 999999999 power 999999999 reach 999999999",
+    b"number 1 power 0 reach 0", b"number 1 power 1", b"places", b"places 1 1", b"places 01", b"places 999999999 999999999",
+    b"places 1000000000", b"places 1  1", b"places 1 ", b"blocks 5990", b"blocks", b"slots", b"slots 1", b"kinds", b"kinds 0 0",
+    b"kinds -1", b"", b" ", b"\xff", b"places 1\r",
+]
 LINES = [
     b"branch 1", b"branch 0", b"branch 999999999", b"branch 1000000000", b"dead 1", b"dead 7", b"dead 8", b"dead 9", b"dead 0",
     b"full 1 2 1 1", b"full 1 0 1 1", b"full 1 0 0 0", b"full 1 999999999 1 1", b"closed 1 0 1 1", b"closed 1 2 1 29",
@@ -112,17 +119,26 @@ def change_setting(content, draws):
 
 def change_line(content, draws):
     """Another line of a certificate, or a line more."""
+    return another_line(content, draws, LINES)
+
+
+def change_weights_line(content, draws):
+    """Another line of weights, or a line more."""
+    return another_line(content, draws, WEIGHTS_LINES)
+
+
+def another_line(content, draws, known):
     lines = lines_of(content)
     at = draws(len(lines))
     if draws(2):
-        lines[at] = pick(draws, LINES)
+        lines[at] = pick(draws, known)
     else:
-        lines.insert(at, pick(draws, LINES))
+        lines.insert(at, pick(draws, known))
     return b"\n".join(lines)
 
 
 def change_word(content, draws):
-    """Another number in a line of a certificate."""
+    """Another number in a line of a certificate or of weights."""
     lines = lines_of(content)
     at = draws(len(lines))
     words = lines[at].split(b" ")
@@ -193,12 +209,13 @@ ANY = [change_bytes, change_ends, change_all, change_order]
 TABLE = [change_cell, change_cell, change_number, change_number, change_number, change_columns, *ANY]
 SETTINGS = [change_setting, change_setting, change_setting, *ANY]
 CERTIFICATE = [change_line, change_word, change_word, change_word, *ANY]
+WEIGHTS = [change_weights_line, change_word, change_word, change_word, *ANY]
 
 
 def changes_of(name):
     if name == "settings.toml":
         return SETTINGS
-    return CERTIFICATE if name == "certificate.txt" else TABLE
+    return {"certificate.txt": CERTIFICATE, "weights.txt": WEIGHTS}.get(name, TABLE)
 
 
 def spoiled(name, content, draws):
