@@ -84,8 +84,9 @@ def _of_text(folder: Folder, line: int, kind: str) -> Explanation:
                 "lower budget in settings.toml, or fix more slots, and let `mss plan` write it anew",
             )
         case "Version":
-            rule = "it begins with the line `mss certificate 1`, ended by a line feed alone"
-            return Explanation(where, rule, here, ANEW, Change(CERTIFICATE, "write", 1, "mss certificate 1"))
+            rule = "it begins with the line `mss certificate 1` or `mss certificate 2`, ended by a line feed alone"
+            named = "mss certificate 1" if text.startswith("mss certificate 1") else "mss certificate 2"
+            return Explanation(where, rule, here, ANEW, Change(CERTIFICATE, "write", 1, named))
         case "Head":
             rule = "the second line is `slots NUMBER options NUMBER level NUMBER`"
             return Explanation(where, rule, here, ANEW, Change(CERTIFICATE, "write", 2, Certificate(folder, line).head))
@@ -168,7 +169,10 @@ def _of_prefix(certificate: Certificate, reason: str, where: str, here: str) -> 
             )
         case "BoundLow":
             *words, number, ward, day = certificate.text.split(" ")
-            rule = "NUMBER is at most the percentile that the census of WARD on DAY has already for the prefix"
+            rule = (
+                "NUMBER is at most the percentile that the census of WARD on DAY has already for the prefix, in version 2"
+                " with the blocks that must still come"
+            )
             lower = certificate.write(" ".join([*words, str(max(int(number) - 1, 0)), ward, day]))
             return Explanation(
                 where,

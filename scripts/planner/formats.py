@@ -4,6 +4,7 @@ from dataclasses import dataclass
 PARTS = 1_000_000
 LONGEST_TABLE = 4_194_304
 LONGEST_CERTIFICATE = 67_108_864
+LONGEST_WEIGHTS = 1_048_576
 MOST_LEVELS = 8
 LONGEST_NAME = 60
 MOST_AGE = 59
@@ -14,6 +15,7 @@ SETTINGS = "settings.toml"
 CYCLE = "cycle.csv"
 BLOCK = "block.csv"
 CERTIFICATE = "certificate.txt"
+WEIGHTS = "weights.txt"
 
 # the days of the settings, as the most of a field
 DAYS = -1
