@@ -76,33 +76,34 @@ on_day t earlier later place before day is within =
       ap (λ r. r + 1) is,
     )
 
-in_order : (d m f s : Bool) → d ≡ true → (d && m && f && s) ≡ (s && (m && f))
-in_order false m f s e = absurd (true≢false (sym e))
-in_order true true true true e = refl
-in_order true true true false e = refl
-in_order true true false true e = refl
-in_order true true false false e = refl
-in_order true false true true e = refl
-in_order true false true false e = refl
-in_order true false false true e = refl
-in_order true false false false e = refl
+-- the parts of a pair that falls, in the order in which they are asked
+in_order : (less day minutes fixed suits : Bool) → day ≡ true → (less && (day && minutes && fixed && suits)) ≡ (minutes && (less && (suits && fixed)))
+in_order less false m f s e = absurd (true≢false (sym e))
+in_order false true true f s e = refl
+in_order false true false f s e = refl
+in_order true true false f s e = refl
+in_order true true true true true e = refl
+in_order true true true true false e = refl
+in_order true true true false true e = refl
+in_order true true true false false e = refl
 
--- slots of one day are alike where their rooms have one number, and they the same minutes and the same fixed option
-pub alike_by_numbers : (t : TableParts) (slot other : ℕ) → day_of t slot ≡ day_of t other
-    → is_alike t slot other ≡ ((suit_number t (room_of t slot) == suit_number t (room_of t other))
-    && ((minutes_at t slot == minutes_at t other) && option_eq nat_eq (fixed_at t slot) (fixed_at t other)))
-alike_by_numbers t slot other e =
+-- a pair of slots of one day falls where both have the same minutes, the later one has the lesser option, their rooms have
+-- one number, and they the same fixed option
+falling_by_numbers : (t : TableParts) (slot other : ℕ) (less : Bool) → day_of t slot ≡ day_of t other
+    → (less && is_alike t slot other) ≡ ((minutes_at t slot == minutes_at t other)
+    && (less && ((suit_number t (room_of t slot) == suit_number t (room_of t other)) && option_eq nat_eq (fixed_at t slot) (fixed_at t other))))
+falling_by_numbers t slot other less e =
     rw (same_suits t (room_of t slot) (room_of t other))
-    (in_order (day_of t slot == day_of t other) (minutes_at t slot == minutes_at t other) (option_eq nat_eq (fixed_at t slot) (fixed_at t other))
+    (in_order less (day_of t slot == day_of t other) (minutes_at t slot == minutes_at t other) (option_eq nat_eq (fixed_at t slot) (fixed_at t other))
     (not (suit_apart t (room_of t slot) (room_of t other))) (eq-eqb (day_of t slot) (day_of t other) e))
 
 -- the same by a list of the rooms' numbers
-pub alike_by_list : (t : TableParts) (numbers : List ℕ) (earlier later place : ℕ) → AreSuitNumbers t numbers
+pub falling_by_list : (t : TableParts) (numbers : List ℕ) (earlier later place : ℕ) (less : Bool) → AreSuitNumbers t numbers
     → earlier < later → later ≤ earlier + place → later % room_count t ≡ place → place < room_count t
-    → is_alike t earlier later ≡ ((get_or numbers (earlier + place - later) 0 == get_or numbers place 0)
-    && ((minutes_at t earlier == minutes_at t later) && option_eq nat_eq (fixed_at t earlier) (fixed_at t later)))
-alike_by_list t numbers earlier later place are before day is within =
+    → (less && is_alike t earlier later) ≡ ((minutes_at t earlier == minutes_at t later)
+    && (less && ((get_or numbers (earlier + place - later) 0 == get_or numbers place 0) && option_eq nat_eq (fixed_at t earlier) (fixed_at t later))))
+falling_by_list t numbers earlier later place less are before day is within =
     let both = on_day t earlier later place before day is within in
-    alike_by_numbers t earlier later both.0
-    ∙ ap₂ (λ x y. (x == y) && ((minutes_at t earlier == minutes_at t later) && option_eq nat_eq (fixed_at t earlier) (fixed_at t later)))
+    falling_by_numbers t earlier later less both.0
+    ∙ ap₂ (λ x y. (minutes_at t earlier == minutes_at t later) && (less && ((x == y) && option_eq nat_eq (fixed_at t earlier) (fixed_at t later))))
     (ap (suit_number t) both.1 ∙ sym (are (earlier + place - later) (omega arith))) (ap (suit_number t) both.2 ∙ sym (are place within))

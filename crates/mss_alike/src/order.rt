@@ -1,8 +1,8 @@
 //! The order of the options of alike slots.
-ghost use Rattle.std.specs.Prelude.{◌≡◌, ℕ, ◌+◌, ◌%◌, ◌<◌, ◌≤◌, ◌==◌, ◌&&◌, length, nat_eq};
-ghost use Rattle.std.specs.Option.{option_eq};
+ghost use Rattle.std.specs.Prelude.{◌≡◌, ℕ, ◌+◌, ◌%◌, ◌<◌, ◌≤◌, ◌&&◌, length, nat_lt};
+ghost use Rattle.mss_model.specs.Legality.{option_at};
 ghost use Rattle.mss_model.specs.PartsOf.{parts_of};
-ghost use Rattle.mss_model.specs.TableWords.{fixed_at, minutes_at, room_count, slot_count};
+ghost use Rattle.mss_model.specs.TableWords.{room_count, slot_count};
 ghost use Rattle.mss_alike.specs.Alike.{breaks_order, falls, is_alike};
 ghost use Rattle.mss_alike.specs.SuitNumbers.{AreSuitNumbers};
 
@@ -18,12 +18,13 @@ pub(crate) fn breaks_order(tables: &Tables, prefix: &[u8]) -> bool
     let numbers = suit_numbers(tables);
     let rooms = usize::from(tables.rooms());
     let mut room = 0;
-    let mut broken = false;
     for later in 0..prefix.len() {
-        broken = broken || falls(tables, &numbers, prefix, later, room);
+        if falls(tables, &numbers, prefix, later, room) {
+            return true;
+        }
         room = next_room(rooms, room);
     }
-    broken
+    false
 }
 
 /// The room of the next slot, from 0 on.
@@ -47,42 +48,36 @@ fn falls(tables: &Tables, numbers: &[u32; 16], prefix: &[u8], later: usize, room
     ensures { result ≡ falls (parts_of tables.now) prefix.now later }
 {
     let first = later - room;
-    let mut broken = false;
     for earlier in first..later {
-        broken = broken
-            || prefix[later] < prefix[earlier]
-                && alike_on_day(tables, numbers, earlier, later, room);
+        if is_falling(tables, numbers, prefix, earlier, later, room) {
+            return true;
+        }
     }
-    broken
+    false
 }
 
-/// Whether two slots of one day are alike. The later one is of this room, from 0 on.
-fn alike_on_day(
+/// Whether two slots of one day are alike and the later one, which is of this room, from 0 on, has the lesser option. What
+/// tells most pairs apart is asked first.
+fn is_falling(
     tables: &Tables,
     numbers: &[u32; 16],
+    prefix: &[u8],
     earlier: usize,
     later: usize,
     room: usize,
 ) -> bool
+    requires long { length prefix.now ≤ slot_count (parts_of tables.now) }
     requires numbers { AreSuitNumbers (parts_of tables.now) numbers.now }
     requires order { earlier < later }
     requires day { later ≤ earlier + room }
-    requires later { later < slot_count (parts_of tables.now) }
+    requires decided { later < length prefix.now }
     requires room { later % room_count (parts_of tables.now) ≡ room }
     requires within { room < room_count (parts_of tables.now) }
-    ensures { result ≡ is_alike (parts_of tables.now) earlier later }
+    ensures { result ≡ (nat_lt (option_at prefix.now later) (option_at prefix.now earlier) && is_alike (parts_of tables.now) earlier later) }
 {
     let _rooms = tables.rooms();
-    numbers[earlier + room - later] == numbers[room]
-        && same_terms(tables, earlier as u32, later as u32)
-}
-
-/// Whether two slots have the same minutes, and the same fixed option or none.
-fn same_terms(tables: &Tables, slot: u32, other: u32) -> bool
-    requires first { slot < slot_count (parts_of tables.now) }
-    requires second { other < slot_count (parts_of tables.now) }
-    ensures { result ≡ ((minutes_at (parts_of tables.now) slot == minutes_at (parts_of tables.now) other)
-        && option_eq nat_eq (fixed_at (parts_of tables.now) slot) (fixed_at (parts_of tables.now) other)) }
-{
-    tables.minutes(slot) == tables.minutes(other) && tables.fixed(slot) == tables.fixed(other)
+    tables.minutes(earlier as u32) == tables.minutes(later as u32)
+        && prefix[later] < prefix[earlier]
+        && numbers[earlier + room - later] == numbers[room]
+        && tables.fixed(earlier as u32) == tables.fixed(later as u32)
 }

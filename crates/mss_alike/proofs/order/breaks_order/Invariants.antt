@@ -1,4 +1,4 @@
-use Rattle.std.proofs.Common.{◌≡◌, ◌%◌, ◌<◌}
+use Rattle.std.proofs.Common.{◌≡◌, ◌%◌, ◌<◌, false}
 use Rattle.mss_model.specs.Legality.{some_below}
 use Rattle.mss_model.specs.PartsOf.{parts_of}
 use Rattle.mss_model.specs.TableWords.{room_count}
@@ -6,5 +6,5 @@ use Rattle.mss_alike.specs.Alike.{falls}
 use Rattle.mss_alike.proofs.order.breaks_order.Given as goal
 
 abbrev pub invariant-loop-later : goal.invariant-loop-later
-invariant-loop-later l = (l.broken ≡ some_below l.later (falls (parts_of l.tables) l.prefix)) × (l.later % room_count (parts_of l.tables) ≡ l.room)
+invariant-loop-later l = (false ≡ some_below l.later (falls (parts_of l.tables) l.prefix)) × (l.later % room_count (parts_of l.tables) ≡ l.room)
     × (l.room < room_count (parts_of l.tables))
