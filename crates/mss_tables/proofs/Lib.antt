@@ -1,15 +1,14 @@
-mod ReadingFacts
+pub mod ReadingFacts
 pub mod ChanceFacts
 mod BlockFacts
 mod ListFacts
 mod PatientsFacts
 mod StaysFacts
 mod SpecialtyBlocks
-mod Places
 mod CellFacts
-mod NamesGrow
+pub mod NamesGrow
 mod RoomFacts
-mod SpecialtyFacts
+pub mod SpecialtyFacts
 mod WatchFacts
 mod CycleFacts
 mod CycleBack
