@@ -1,10 +1,12 @@
 // A plain Rust program that does what `mss_improve` does: the yardstick of its speed. It reads the settings and tables of the
 // current folder without testing them, draws the same candidates from the same number, judges each on the same kept lists
-// with the same form of convolution, writes improved.csv, and says the same text with the same status.
+// with the same form of convolution, writes improved.csv, and says the same text but for the lower number, with the same
+// status.
 //
-// improve cycle NUMBER TRIES | improve new NUMBER TRIES
+// improve cycle NUMBER TRIES [once] | improve new NUMBER TRIES [once]: for each list it goes through all slots of the cycle;
+// with the word `once` through those of the ward, which it finds once for a candidate, as the planner does.
 mod plain;
-use plain::lists::{Lists, PARTS, Peak, UNIT, peak_of, steady_lists, value_of};
+use plain::lists::{Lists, PARTS, Peak, UNIT, part, peak_of, push, steady_lists, value_of};
 use plain::report::{report, report_text};
 use plain::rules::{could_take, dead};
 use plain::tables::{Tables, cycle_text, read_cycle, read_tables};
@@ -83,6 +85,8 @@ struct Search<'a> {
     lists: Lists,
     value: Vec<u64>,
     scratch: Vec<u64>,
+    is_once: bool,
+    own: Vec<usize>,
     current: Measured,
     candidate: Measured,
     best: Vec<u8>,
@@ -104,11 +108,11 @@ fn lack_of(level: u64, value: &[u64], target: usize) -> u64 {
 }
 
 impl<'a> Search<'a> {
-    fn begin(tables: &'a Tables, start: &[u8]) -> Search<'a> {
+    fn begin(tables: &'a Tables, start: &[u8], is_once: bool) -> Search<'a> {
         let (lists, mut value, mut scratch) = (steady_lists(tables), vec![], vec![]);
         let peak = peak_of(tables, &lists, start, &mut value, &mut scratch);
         let measured = || Measured { options: start.to_vec(), lacks: vec![0; tables.wards.len()], lack: 0 };
-        let mut search = Search { tables, lists, value, scratch, current: measured(), candidate: measured(), best: start.to_vec(), peak };
+        let mut search = Search { tables, lists, value, scratch, is_once, own: vec![], current: measured(), candidate: measured(), best: start.to_vec(), peak };
         search.measure();
         search
     }
@@ -118,14 +122,34 @@ impl<'a> Search<'a> {
         if !self.tables.watched[ward] {
             return lack;
         }
+        if self.is_once {
+            let tables = self.tables;
+            self.own.clear();
+            self.own.extend((0..options.len()).filter(|slot| lies_on(tables, ward, options[*slot])));
+        }
         for day in 1..=self.tables.days {
             if lack > most {
                 return lack;
             }
-            value_of(self.tables, &self.lists, ward, day, options, &mut self.value, &mut self.scratch);
+            if self.is_once {
+                self.value_of_own(options, ward, day);
+            } else {
+                value_of(self.tables, &self.lists, ward, day, options, &mut self.value, &mut self.scratch);
+            }
             lack += lack_of(self.tables.level, &self.value, target);
         }
         lack
+    }
+
+    // The list of a ward and day by the slots of the ward.
+    fn value_of_own(&mut self, options: &[u8], ward: usize, day: usize) {
+        self.value.clear();
+        self.value.push(UNIT);
+        for slot in &self.own {
+            if let Some(part) = part(self.tables, &self.lists, ward, day, *slot, options[*slot]) {
+                push(&mut self.value, part, &mut self.scratch);
+            }
+        }
     }
 
     // Measures the present cycle against a lower peak.
@@ -212,7 +236,7 @@ fn main() {
         }
         cycle
     };
-    let mut search = Search::begin(&tables, &start);
+    let mut search = Search::begin(&tables, &start, words.len() > 3);
     let (first, mut draws, mut accepted) = (search.peak, Draws(number), 0);
     for _ in 0..tries {
         accepted += u32::from(search.turn(&mut draws));
