@@ -3,10 +3,10 @@
 // carried prefixes, floors and a heap, writes planned.csv and certificate.txt, and says the same text with the same status.
 //
 // The word `alike` stands for `mss plan alike`. Other words change the bounds, and nothing else: `empty` makes each bound
-// from the empty prefix, and `orphans` doesn't bring back the lists of a parent that isn't carried any more before its
-// children are bounded; `unfloored` bounds without floors, and writes version 1. On standard error it says how many bounds
-// it made, how often they called the convolution, and how often the last options of all bounded prefixes alone would call
-// it, below which no carried lists can go.
+// from the empty prefix, and `orphans` each from the longest carried prefix, where the children of a prefix go on from its
+// lists, and from the low numbers of its idle child on all wards but that of their last option; `unfloored` bounds without
+// floors, and writes version 1. On standard error it says how many bounds it made, how often they called the convolution,
+// and how often the last options of all bounded prefixes alone would call it, below which no carried lists can go.
 mod plain;
 use plain::floors::{Floors, forced};
 use plain::lists::{self, CALLS, Lists, UNIT, first_reaching, peak_of, push_full};
@@ -37,6 +37,19 @@ struct Bound {
     number: u32,
     ward: u32,
     day: u32,
+}
+
+impl Bound {
+    fn none() -> Bound {
+        Bound { number: 0, ward: 0, day: 0 }
+    }
+
+    // One more place, in order.
+    fn take(&mut self, number: u32, (ward, day): (usize, usize)) {
+        if self.ward == 0 || self.number < number {
+            *self = Bound { number, ward: ward as u32, day: day as u32 };
+        }
+    }
 }
 
 struct Carried {
@@ -77,6 +90,8 @@ struct Bounder<'a> {
     value: Vec<u64>,
     raised: Vec<u64>,
     scratch: Vec<u64>,
+    // those of the idle child
+    lows: Vec<u32>,
     bounds: u64,
     calls: u64,
     least: u64,
@@ -97,7 +112,7 @@ impl<'a> Bounder<'a> {
         let make = || Carried::make(tables.slots(), spots.len(), room);
         let (carried, working) = ((0..PLACES).map(|_| make()).collect(), make());
         let value = || Vec::with_capacity(ROOM);
-        Bounder { tables, lists, carried, working, spots, how, dead, floors, value: value(), raised: value(), scratch: value(), bounds: 0, calls: 0, least: 0 }
+        Bounder { tables, lists, carried, working, spots, how, dead, floors, value: value(), raised: value(), scratch: value(), lows: vec![], bounds: 0, calls: 0, least: 0 }
     }
 
     fn longest(&self, prefix: &[u8]) -> usize {
@@ -142,45 +157,81 @@ impl<'a> Bounder<'a> {
         self.carried.rotate_right(1);
     }
 
+    // A bound by itself, over the lists of the prefix.
     fn bound(&mut self, prefix: &[u8]) -> Bound {
-        let before = calls();
         if self.how == How::Empty {
             self.fill(prefix, false);
         } else {
             self.carry(prefix);
         }
-        let Bounder { tables, lists, spots, carried, working, how, floors, value, raised, scratch, .. } = self;
-        let held = if *how == How::Empty { &working.lists } else { &carried[0].lists };
-        let forced = if floors.is_some() { forced(tables, prefix) } else { vec![] };
-        let mut bound = Bound { number: 0, ward: 0, day: 0 };
-        for ((ward, day), list) in spots.iter().zip(held) {
-            value.clear();
-            value.extend_from_slice(list);
-            if let Some(floors) = floors {
-                floors.push(tables, lists, prefix, &forced, *ward, *day, value, raised, scratch);
-            }
-            let number = first_reaching(value, 0, tables.level) as u32;
-            if bound.ward == 0 || bound.number < number {
-                bound = Bound { number, ward: *ward as u32, day: *day as u32 };
-            }
+        let forced = self.forced(prefix);
+        let mut bound = Bound::none();
+        for at in 0..self.spots.len() {
+            let number = self.low(prefix, &forced, at, None);
+            bound.take(number, self.spots[at]);
         }
-        self.bounds += 1;
-        self.calls += calls() - before;
         bound
     }
 
-    fn line(&mut self, prefix: &[u8], parent: &[u8]) -> Line {
+    fn forced(&self, prefix: &[u8]) -> Vec<u32> {
+        if self.floors.is_some() { forced(self.tables, prefix) } else { vec![] }
+    }
+
+    // The low number at a place, over a carried list and the list that an option adds to it.
+    fn low(&mut self, prefix: &[u8], forced: &[u32], at: usize, part: Option<(usize, u8)>) -> u32 {
+        let Bounder { tables, lists, spots, carried, working, how, floors, value, raised, scratch, .. } = self;
+        let held = if *how == How::Empty { &working.lists } else { &carried[0].lists };
+        let (ward, day) = spots[at];
+        value.clear();
+        value.extend_from_slice(&held[at]);
+        if let Some(part) = part.and_then(|(slot, option)| lists::part(tables, lists, ward, day, slot, option)) {
+            push_full(value, part, raised, scratch);
+        }
+        if let Some(floors) = floors {
+            floors.push(tables, lists, prefix, forced, ward, day, value, raised, scratch);
+        }
+        first_reaching(value, 0, tables.level) as u32
+    }
+
+    // The low numbers of the child whose last slot is idle, which has the lists of its parent.
+    fn take_idle_lows(&mut self, parent: &[u8]) {
+        let before = calls();
+        self.carry(parent);
+        let idle = child_of(parent, 0);
+        let forced = self.forced(&idle);
+        self.lows.clear();
+        for at in 0..self.spots.len() {
+            let number = self.low(&idle, &forced, at, None);
+            self.lows.push(number);
+        }
+        self.calls += calls() - before;
+    }
+
+    // The bound of a child, where the low numbers of its idle sibling are known.
+    fn child_bound(&mut self, child: &[u8]) -> Bound {
+        let (parent, option) = (&child[..child.len() - 1], child[child.len() - 1]);
+        self.carry(parent);
+        let ward = if option == 0 { 0 } else { self.tables.ward_of[option as usize] };
+        let forced = self.forced(child);
+        let mut bound = Bound::none();
+        for at in 0..self.spots.len() {
+            let number = if self.spots[at].0 == ward { self.low(child, &forced, at, Some((parent.len(), option))) } else { self.lows[at] };
+            bound.take(number, self.spots[at]);
+        }
+        bound
+    }
+
+    fn line(&mut self, prefix: &[u8]) -> Line {
         let rule = (self.dead)(self.tables, prefix);
         if rule != 0 {
             return Line::Dead { rule: u32::from(rule) };
         }
-        if self.how == How::Carried && self.longest(parent) < parent.len() {
-            let before = calls();
-            self.carry(parent);
-            self.calls += calls() - before;
-        }
         self.least += prefix.last().map_or(0, |option| self.calls_for(*option));
-        Line::Open { bound: self.bound(prefix) }
+        let before = calls();
+        let bound = if self.how == How::Carried && !prefix.is_empty() { self.child_bound(prefix) } else { self.bound(prefix) };
+        self.bounds += 1;
+        self.calls += calls() - before;
+        Line::Open { bound }
     }
 
     // How many places an option adds to.
@@ -220,7 +271,7 @@ fn child_of(prefix: &[u8], option: u8) -> Vec<u8> {
 
 impl Search {
     fn start(bounder: &mut Bounder) -> Search {
-        let line = bounder.line(&[], &[]);
+        let line = bounder.line(&[]);
         let mut queue = BinaryHeap::new();
         if let Line::Open { bound } = line {
             queue.push(Reverse(Waiting { number: bound.number, left: bounder.tables.slots(), options: vec![], bound, node: 0 }));
@@ -248,9 +299,12 @@ impl Search {
     fn branch(&mut self, bounder: &mut Bounder, taken: Waiting) {
         let (first, after) = (self.nodes.len(), self.nodes[taken.node].next);
         let count = bounder.tables.specialties.len() + 1;
+        if bounder.how == How::Carried {
+            bounder.take_idle_lows(&taken.options);
+        }
         for option in 0..count {
             let options = child_of(&taken.options, option as u8);
-            let line = bounder.line(&options, &taken.options);
+            let line = bounder.line(&options);
             let node = self.nodes.len();
             self.nodes.push(Node { next: if option + 1 == count { after } else { node as u32 + 1 }, line });
             if let Line::Open { bound } = line {

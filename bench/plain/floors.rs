@@ -13,10 +13,14 @@ pub fn forced(t: &Tables, prefix: &[u8]) -> Vec<u32> {
         got[*option as usize] += t.minutes[slot];
     }
     let undecided = prefix.len()..t.slots();
-    let longest = |j: usize| undecided.clone().filter(|slot| could_take(t, *slot, j)).map(|slot| t.minutes[slot]).max();
-    let blocks = |j: usize| match (t.low[j].saturating_sub(got[j + 1]), longest(j)) {
-        (0, _) | (_, None | Some(0)) => 0,
-        (missing, Some(minutes)) => missing.div_ceil(minutes),
+    let longer = |j, longest, slot| if t.minutes[slot] > longest && could_take(t, slot, j) { t.minutes[slot] } else { longest };
+    let longest = |j| undecided.clone().fold(0, |longest, slot| longer(j, longest, slot));
+    let blocks = |j: usize| match t.low[j].saturating_sub(got[j + 1]) {
+        0 => 0,
+        missing => match longest(j) {
+            0 => 0,
+            minutes => missing.div_ceil(minutes),
+        },
     };
     (0..t.specialties.len()).map(blocks).collect()
 }
@@ -34,10 +38,17 @@ impl Floors {
         let Floors { sums, floor } = self;
         let rooms = t.rooms.len();
         let open = |q: &usize| (q * rooms..(q + 1) * rooms).any(|slot| slot >= prefix.len() && could_take(t, slot, j));
+        let list_from = |q: usize| &lists[j + 1][(day + t.days - (q + 1)) % t.days];
+        // the list of no patients is the least
+        if (0..t.days).any(|q| list_from(q).len() == 1 && open(&q)) {
+            floor.clear();
+            floor.push(UNIT);
+            return;
+        }
         sums.clear();
         let mut first = true;
         for q in (0..t.days).filter(open) {
-            let list = &lists[j + 1][(day + t.days - (q + 1)) % t.days];
+            let list = list_from(q);
             if first {
                 sums.resize(list.len(), 0);
                 first = false;

@@ -16,18 +16,18 @@ use Rattle.mss_model.specs.Legality.{IsLegal, could_take, some_below}
 use Rattle.mss_model.proofs.JointSums.{nonempty, joint-unit_right}
 use Rattle.mss_enclose.specs.Unit.{unit}
 use Rattle.mss_enclose.specs.Kept.{StandsFor, LeanStands, PartsStand, raised, lean_convolution}
-use Rattle.mss_enclose.specs.LeanLaws.{sum-raised, lean-push}
+use Rattle.mss_enclose.specs.LeanLaws.{length-raised, sum-raised, lean-push}
 use Rattle.mss_enclose.proofs.ManyPushes.{all-stand, sum-joint_all}
 use Rattle.mss_rules.specs.RuleLaws.{each_below}
 use Rattle.mss_floor.specs.ForcedBlocks.{forced_blocks, blocks_from}
-use Rattle.mss_floor.specs.FloorLists.{choices, is_open_day, specialty_floor, steady_list}
+use Rattle.mss_floor.specs.FloorLists.{choices, floor_of, is_open_day, specialty_floor, steady_list}
 use Rattle.mss_floor.specs.FlooredLists.{fitting, floors_for, floored_list, LiesBelow}
 use Rattle.mss_floor.specs.LowestSums.{AreFull}
 use Rattle.mss_census.proofs.TableBlocks.{block-good}
 use Rattle.mss_floor.proofs.KnownLists.{steady_sum, steady-stands}
 use Rattle.mss_floor.proofs.OrderOfSums.{IsBelow, is_below-trans, is_below-self, is_below-joint, nothing-below}
 use Rattle.mss_floor.proofs.LaterSlots.{slot_census, later_census, later-positive, later-append, TakenOut, take-out}
-use Rattle.mss_floor.proofs.FloorOrder.{Among, sum-floor, floor-below, raised-below}
+use Rattle.mss_floor.proofs.FloorOrder.{Among, sum-floor, floor-below, floor-one, raised-below}
 use Rattle.mss_floor.proofs.NeededBlocks.{times, times-take, forced-times, forced-lie}
 
 -- ---- a floor lies at or below what a block adds
@@ -68,6 +68,15 @@ some-passes n test k l h = elim (cases_Bool (some_below n test)) [
   | inl passed ↦ passed
   | inr none ↦ absurd (let e : false ≡ true = sym (each_below n test none k l) ∙ h in cc)
 ]
+
+-- on a day on which nobody of a block in an open slot is there
+pub nobody-floor : (t : TableParts) (p : List ℕ) (j day q : ℕ) → IsTables t → q < t.days → is_open_day t p j (q + 1) ≡ true
+    → length (steady_list t.days (block_of t j) (offset t.days day (q + 1))) ≡ 1 → unit ∷ [] ≡ floor_of (choices t p j day)
+nobody-floor t p j day q good inside o one =
+    let listed : ℕ → List ℕ = λ d. raised (steady_list t.days (block_of t j) (offset t.days day d)) in
+    floor-one (raised (steady_list t.days (block_of t j) (offset t.days day (q + 1)))) (choices t p j day) (choices-full t p j day good)
+    (among-kept listed (is_open_day t p j) 1 t.days (q + 1) (omega arith) (omega (arith, inside)) o)
+    (length-raised (steady_list t.days (block_of t j) (offset t.days day (q + 1))) ∙ one)
 
 open-day : (t : TableParts) (p : List ℕ) (j place : ℕ) → length p ≤ place → place < slot_count t → could_take t place j ≡ true → is_open_day t p j (day_of t place) ≡ true
 open-day t p j place from before could =

@@ -9,7 +9,7 @@ ghost use Rattle.mss_enclose.specs.Words.{masses_list, masses_room, mass_lists};
 ghost use Rattle.mss_thin.specs.SteadyLists.{steady_lists};
 ghost use Rattle.mss_floor.specs.FloorLists.{floor_of, choices, specialty_floor, steady_table, with_cumulative};
 
-use crate::lowest::{lowest_sums, take_growth};
+use crate::lowest::{adds_none, lowest_sums, take_growth};
 use mss_enclose::{Enclosure, Kernel, MassList, Masses};
 use mss_model::{NoMemory, Tables};
 use mss_thin::steady;
@@ -104,6 +104,10 @@ pub(crate) fn set_floor(
     ensures floor { masses_room floor.new ≡ 961 }
     ensures room { length sums.new ≡ 961 }
 {
+    if adds_none(lists, tables, prefix, j, day) {
+        floor.reset();
+        return;
+    }
     let len = lowest_sums(sums, lists, tables, prefix, j, day);
     if len == 0 {
         floor.reset();

@@ -1,5 +1,5 @@
 //! How many blocks a specialty must still get.
-ghost use Rattle.std.specs.Prelude.{◌≡◌, ℕ, ◌+◌, ◌-◌, ◌<◌, ◌≤◌, ◌==◌, List, ◌++◌, length, slice_index, if◌then◌else◌};
+ghost use Rattle.std.specs.Prelude.{◌≡◌, ℕ, ◌+◌, ◌-◌, ◌<◌, ◌≤◌, ◌==◌, List, ◌++◌, length, max, slice_index, if◌then◌else◌};
 ghost use Rattle.std.specs.List.{All};
 ghost use Rattle.mss_model.specs.Legality.{IsLegal};
 ghost use Rattle.mss_model.specs.Limits.{Between};
@@ -24,6 +24,20 @@ fn open_minutes(tables: &Tables, slot: u32, j: u8) -> u32
     }
 }
 
+/// The greater of the minutes so far and those that a specialty could have in a slot. A slot that has no more minutes isn't
+/// asked about.
+#[tactic(auto, using(crate::proofs::BlockCounts::longer_slots))]
+fn longer(tables: &Tables, slot: u32, j: u8, longest: u32) -> u32
+    requires slot { slot < slot_count (parts_of tables.now) }
+    requires specialty { Between 1 (specialty_count (parts_of tables.now)) j }
+    ensures { result ≡ max longest (open_minutes (parts_of tables.now) j slot) }
+{
+    if tables.minutes(slot) <= longest {
+        return longest;
+    }
+    open_minutes(tables, slot, j).max(longest)
+}
+
 /// The greatest minutes of a slot from one on that a specialty could take.
 #[tactic(auto, using(crate::proofs::BlockCounts::largest_more))]
 fn longest(tables: &Tables, from: u32, j: u8) -> u32
@@ -33,7 +47,7 @@ fn longest(tables: &Tables, from: u32, j: u8) -> u32
 {
     let mut longest = 0;
     for place in 0..tables.slots() - from {
-        longest = open_minutes(tables, from + place, j).max(longest);
+        longest = longer(tables, from + place, j, longest);
     }
     longest
 }

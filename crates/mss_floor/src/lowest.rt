@@ -1,8 +1,9 @@
 //! The greatest cumulative numbers of some lists.
-ghost use Rattle.std.specs.Prelude.{◌≡◌, ℕ, ◌+◌, ◌-◌, ◌<◌, ◌≤◌, Bool, ◌&&◌, ◌==◌, List, [], ◌∷◌, ◌++◌, get_or, length, max, min, nat_le, sum, if◌then◌else◌};
+ghost use Rattle.std.specs.Prelude.{◌≡◌, ℕ, ◌+◌, ◌-◌, ◌<◌, ◌≤◌, Bool, ◌&&◌, ◌==◌, true, List, [], ◌∷◌, ◌++◌, get_or, length, max, min, nat_le, sum, if◌then◌else◌};
 ghost use Rattle.std.specs.List.{range_with_len};
 ghost use Rattle.mss_model.specs.Legality.{could_take, some_below};
 ghost use Rattle.mss_model.specs.Limits.{Between};
+ghost use Rattle.mss_model.specs.Occurrences.{offset};
 ghost use Rattle.mss_model.specs.PartsOf.{parts_of};
 ghost use Rattle.mss_model.specs.Percentile.{cumulative};
 ghost use Rattle.mss_model.specs.TableWords.{block_of, day_of, slot_count, specialty_count};
@@ -10,7 +11,7 @@ ghost use Rattle.mss_enclose.specs.Kept.{raised};
 ghost use Rattle.mss_enclose.specs.Unit.{unit};
 ghost use Rattle.mss_enclose.specs.Words.{masses_list, mass_lists};
 ghost use Rattle.mss_thin.specs.SteadyLists.{steady_lists};
-ghost use Rattle.mss_floor.specs.FloorLists.{choices, growth};
+ghost use Rattle.mss_floor.specs.FloorLists.{choices, floor_of, growth, steady_list};
 ghost use Rattle.mss_floor.specs.LowestSums.{AreFull, AreSums, day_choice};
 
 use mss_enclose::{Enclosure, MassList, Masses};
@@ -76,9 +77,48 @@ fn take_day(
     if !counts {
         return len;
     }
+    lower(sums, len, list_from(lists, tables, j, day, place))
+}
+
+/// Whether one of what one more block of specialty j may add on a day is the list of no patients, which then is its floor. The
+/// lists are the steady lists of j.
+pub(crate) fn adds_none(lists: &MassList, tables: &Tables, prefix: &[u8], j: u8, day: u8) -> bool
+    requires lists { mass_lists lists.now ≡ steady_lists (parts_of tables.now).days (block_of (parts_of tables.now) j) }
+    requires long { length prefix.now ≤ slot_count (parts_of tables.now) }
+    requires specialty { Between 1 (specialty_count (parts_of tables.now)) j }
+    ensures { result ≡ true → unit ∷ [] ≡ floor_of (choices (parts_of tables.now) prefix.now j day) }
+{
+    let _slots = tables.slots();
+    for place in 0..tables.days() {
+        if adds_none_from(lists, tables, prefix.len() as u32, j, day, place) {
+            return true;
+        }
+    }
+    false
+}
+
+/// Whether specialty j could take a slot of a day `place`, counted from 0, of those from one on, and nobody of it is there on
+/// `day`.
+fn adds_none_from(lists: &MassList, tables: &Tables, from: u32, j: u8, day: u8, place: u8) -> bool
+    requires lists { mass_lists lists.now ≡ steady_lists (parts_of tables.now).days (block_of (parts_of tables.now) j) }
+    requires place { place < (parts_of tables.now).days }
+    requires specialty { Between 1 (specialty_count (parts_of tables.now)) j }
+    ensures short { result ≡ true → length (steady_list (parts_of tables.now).days (block_of (parts_of tables.now) j) (offset (parts_of tables.now).days day (place + 1))) ≡ 1 }
+    ensures could { result ≡ true → true ≡ some_below (slot_count (parts_of tables.now) - from)
+        (λ k. (day_of (parts_of tables.now) (from + k) == place + 1) && could_take (parts_of tables.now) (from + k) j) }
+{
+    list_from(lists, tables, j, day, place).len() == 1 && is_open(tables, from, j, place)
+}
+
+/// What a block of specialty j in a slot of a day `place`, counted from 0, adds on `day`.
+fn list_from<'a>(lists: &'a MassList, tables: &Tables, j: u8, day: u8, place: u8) -> &'a Masses
+    requires lists { mass_lists lists.now ≡ steady_lists (parts_of tables.now).days (block_of (parts_of tables.now) j) }
+    requires place { place < (parts_of tables.now).days }
+    ensures { masses_list result.now ≡ steady_list (parts_of tables.now).days (block_of (parts_of tables.now) j) (offset (parts_of tables.now).days day (place + 1)) }
+{
     let days = u32::from(tables.days());
     let offset = (u32::from(day) + days - u32::from(place + 1)) % days;
-    lower(sums, len, lists.get(offset))
+    lists.get(offset)
 }
 
 /// Whether specialty j could take a slot of a day, counted from 0, of those from one on.

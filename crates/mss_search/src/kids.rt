@@ -5,11 +5,13 @@ ghost use Rattle.mss_model.specs.TableWords.{slot_count, option_count};
 ghost use Rattle.mss_model.specs.PartsOf.{parts_of};
 ghost use Rattle.mss_floor.specs.FlooredLists.{floored_census};
 ghost use Rattle.mss_bounds.specs.BounderView.{IsBounderOf};
+ghost use Rattle.mss_bounds.specs.Children.{AreLows, idle_sibling};
 ghost use Rattle.mss_bounds.specs.PrefixBound.{bound_of};
+ghost use Rattle.mss_cert.specs.declared.certificate.Line.TheVariants.{Dead, OpenAt};
 ghost use Rattle.mss_search.specs.Kids.{fresh_line, kid_lines, HasKids};
 
 use crate::queue::{Queue, Waiting};
-use mss_bounds::Bounder;
+use mss_bounds::{Bound, Bounder};
 use mss_cert::Line;
 use mss_enclose::{Enclosure, Kernel};
 use mss_model::{NoMemory, Tables};
@@ -31,35 +33,51 @@ pub(crate) fn fresh_line<E: Enclosure, K: Kernel, R: Rules>(
     ensures bounder { IsBounderOf (parts_of tables.now) bounder.new }
 {
     match rules.dead(tables, prefix) {
-        Some(rule) => Line::Dead {
-            rule: u32::from(rule),
-        },
-        None => {
-            let bound = bounder.bound(kernel, tables, prefix);
-            Line::OpenAt {
-                number: bound.number,
-                ward: u32::from(bound.ward),
-                day: u32::from(bound.day),
-            }
-        }
+        Some(rule) => dead_line(rule),
+        None => open_line(bounder.bound(kernel, tables, prefix)),
     }
 }
 
-/// Makes the bounder carry a prefix, so that the bounds of its children go on from its lists: best first takes a prefix
-/// long after it was bound, when other prefixes may have taken its place.
-fn carry<E: Enclosure, K: Kernel>(
+/// The same of a prefix with a last option, where the low numbers of the prefix that is idle there are known.
+fn kid_line<E: Enclosure, K: Kernel, R: Rules>(
     tables: &Tables,
     kernel: &K,
+    rules: &R,
     bounder: &mut Bounder<E>,
-    prefix: &[u8],
-)
+    child: &[u8],
+    lows: &[u32; 224],
+) -> Line
     requires tables { IsBounderOf (parts_of tables.now) bounder.old }
-    requires long { length prefix.now ≤ slot_count (parts_of tables.now) }
-    requires options { All (λ option. option < option_count (parts_of tables.now)) prefix.now }
-    ensures { IsBounderOf (parts_of tables.now) bounder.new }
+    requires some { 0 < length child.now }
+    requires long { length child.now ≤ slot_count (parts_of tables.now) }
+    requires options { All (λ option. option < option_count (parts_of tables.now)) child.now }
+    requires lows { AreLows (floored_census E.joined) E.low_of (parts_of tables.now) (idle_sibling child.now) lows.now }
+    ensures line { result ≡ fresh_line (R.rule (parts_of tables.now)) (bound_of (floored_census E.joined) E.low_of (parts_of tables.now)) child.now }
+    ensures bounder { IsBounderOf (parts_of tables.now) bounder.new }
 {
-    if (bounder.carried(prefix) as usize) < prefix.len() {
-        bounder.carry(kernel, tables, prefix);
+    match rules.dead(tables, child) {
+        Some(rule) => dead_line(rule),
+        None => open_line(bounder.child_bound(kernel, tables, child, lows)),
+    }
+}
+
+/// The line of a prefix that is dead by a rule.
+fn dead_line(rule: u8) -> Line
+    ensures { result ≡ Dead rule }
+{
+    Line::Dead {
+        rule: u32::from(rule),
+    }
+}
+
+/// The line of an open prefix with its bound.
+fn open_line(bound: Bound) -> Line
+    ensures { result ≡ OpenAt bound.number bound.ward bound.day }
+{
+    Line::OpenAt {
+        number: bound.number,
+        ward: u32::from(bound.ward),
+        day: u32::from(bound.day),
     }
 }
 
@@ -88,11 +106,12 @@ pub(crate) fn kid_lines<E: Enclosure, K: Kernel, R: Rules>(
     ensures lines { IfOk result (λ v. v.items ≡ kid_lines (R.rule (parts_of tables.now)) (bound_of (floored_census E.joined) E.low_of (parts_of tables.now)) (option_count (parts_of tables.now)) prefix.now) }
     ensures bounder { IsBounderOf (parts_of tables.now) bounder.new }
 {
-    carry(tables, kernel, bounder, prefix);
+    let idle = child_of(alloc, prefix, 0)?;
+    let lows = bounder.idle_lows(kernel, tables, idle.as_slice());
     let mut lines = Vec::with_capacity(alloc, usize::from(tables.specialties()) + 1)?;
     for option in 0..tables.specialties() + 1 {
         let child = child_of(alloc, prefix, option)?;
-        lines.push(fresh_line(tables, kernel, rules, bounder, child.as_slice()))?;
+        lines.push(kid_line(tables, kernel, rules, bounder, child.as_slice(), &lows))?;
     }
     Ok(lines)
 }
