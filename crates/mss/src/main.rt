@@ -3,44 +3,20 @@
 //! file or the output failed, and that memory was wanting.
 #![tactic(auto)]
 
-use mss_app::{Status, run};
+use mss_app::run;
+use mss_command::{exit_code, words};
 use mss_desk::FolderDesk;
 use mss_enclose::Plain;
-use std::env;
-use std::io::ErrorKind;
 use std::process::ExitCode;
 
 const PROGRAM: &str = "mss";
 
-// The system refused the words for another cause than want of memory.
-const NO_WORDS: u8 = 11;
-
 fn main(rt: HostRuntime) -> ExitCode {
-    let alloc = rt.alloc();
-    let mut words = Vec::new(alloc);
-    match env::args(&rt) {
-        Ok(args) => {
-            for word in args.skip(1) {
-                if words.push(word).is_err() {
-                    return end(rt, Status::NoMemory);
-                }
-            }
-        }
-        Err(e) if e.kind() == ErrorKind::OutOfMemory => return end(rt, Status::NoMemory),
-        Err(e) => {
-            let _ = eprintln!(rt; "{PROGRAM}: the words of the command line: {e}");
-            return ExitCode::from(NO_WORDS);
-        }
-    }
+    let words = match words(&rt, PROGRAM) {
+        Ok(words) => words,
+        Err(code) => return code,
+    };
     let mut desk = FolderDesk::make(rt, PROGRAM);
-    let status = run(alloc, words.as_slice(), &mut desk, &Plain);
-    end(rt, status)
-}
-
-// The end with a status. Want of memory is told here; the desk told of reads and writes that failed.
-fn end(rt: HostRuntime, status: Status) -> ExitCode {
-    if status == Status::NoMemory {
-        let _ = eprintln!(rt; "{PROGRAM}: not enough memory");
-    }
-    ExitCode::from(status.number())
+    let status = run(rt.alloc(), words.as_slice(), &mut desk, &Plain);
+    exit_code(&rt, PROGRAM, status)
 }

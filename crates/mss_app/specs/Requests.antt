@@ -6,18 +6,20 @@ use Rattle.std.specs.String.{string_bytes}
 use Rattle.std.specs.declared.alloc.Global.{Global}
 use Rattle.mss_desk.specs.Desk.{Content, Files}
 use Rattle.mss_command.specs.declared.status.Status.{Status}
+use Rattle.mss_command.specs.Checks.{check_may_answer}
 use Rattle.mss_command.specs.Fetched.{Missing, fetched, file_limit}
 use Rattle.mss_command.specs.Cycles.{cycle_file}
 use Rattle.mss_command.specs.Outcome.{Outcome}
+use Rattle.mss_command.specs.Promised.{SaysOnly}
 use Rattle.mss_command.specs.Questions.{AskLacks, Asks, may_end_asking}
 use Rattle.mss_alike.specs.declared.rule_set.RuleSet.TheVariants.{Legal, Canonical}
 use Rattle.mss_alike.specs.RuleSets.{rule_of}
 use Rattle.mss_command.specs.Usage.{NothingPromised, UsageDefines, usage_may_end}
 use Rattle.mss_evaluate.specs.declared.evaluation.Form.TheVariants.{Plain, Json}
-use Rattle.mss_evaluate.specs.Block.{BlockDefines, BlockPromised, block_file, block_may_end}
-use Rattle.mss_evaluate.specs.Evaluate.{CycleDefines, EvaluationPromised, evaluation_may_answer, text_in}
+use Rattle.mss_evaluate.specs.Block.{BlockDefines, PrintedBlock, block_file, block_may_end}
+use Rattle.mss_evaluate.specs.Evaluate.{CycleDefines, PrintedEvaluation, evaluation_may_answer, text_in}
 use Rattle.mss_plan.specs.Plan.{PlanDefines, PlanPromised, plan_may_answer}
-use Rattle.mss_certify.specs.Check.{CheckDefines, CheckPromised, certificate_file, certificate_limit, check_may_answer}
+use Rattle.mss_certify.specs.Check.{CheckDefines, SaysTrue, certificate_file, certificate_limit}
 use Rattle.mss_generate.specs.declared.generate.Generate.{Generate}
 use Rattle.mss_generate.specs.Generates.{Generates, generate_may_end}
 use Rattle.mss_generate.specs.Kept.{Kept}
@@ -82,8 +84,8 @@ may_end (Some (Check rules)) status = may_end_asking check_may_answer status
 -- what is promised of the contents before and after, in the words of the exact model alone
 abbrev pub Promised : Option Request → Status → Content → Content → Type 0
 Promised None status c d = NothingPromised status c d
-Promised (Some Block) status c d = BlockPromised status c d
-Promised (Some (Evaluate form)) status c d = EvaluationPromised (text_in form) status c d
+Promised (Some Block) status c d = SaysOnly PrintedBlock status c d
+Promised (Some (Evaluate form)) status c d = SaysOnly (PrintedEvaluation (text_in form)) status c d
 Promised (Some (Plan rules)) status c d = PlanPromised (rule_of rules) status c d
 Promised (Some (requests.Generate command)) status c d = Kept command.number command.size c d
-Promised (Some (Check rules)) status c d = CheckPromised status c d
+Promised (Some (Check rules)) status c d = SaysOnly SaysTrue status c d

@@ -1,10 +1,9 @@
 -- What the commands `check` and `check alike` come to, and what they promise. A rule that makes a prefix dead tells them
 -- apart.
-use Rattle.std.specs.Prelude.{◌≡◌, ◌⊎◌, ◌≤◌, ℕ, Bool, true, false, List, ◌++◌, Option, None, codes, decimal}
+use Rattle.std.specs.Prelude.{◌≡◌, ◌⊎◌, ℕ, List, Option, codes}
 use Rattle.mss_model.specs.Legality.{IsLegal}
-use Rattle.mss_model.specs.Peak.{peak}
 use Rattle.mss_model.specs.declared.parts.TableParts.{TableParts}
-use Rattle.mss_desk.specs.Desk.{Files, Content}
+use Rattle.mss_desk.specs.Desk.{Files}
 use Rattle.mss_cert.specs.declared.certificate.Certificate.{Certificate}
 use Rattle.mss_cert.specs.declared.faults.CertFault.{CertFault}
 use Rattle.mss_cert.specs.declared.faults.CertKind.TheVariants as kinds
@@ -15,14 +14,14 @@ use Rattle.mss_cert.specs.CertificateFaults.{IsFaultAt}
 use Rattle.mss_cert.specs.CertificateText.{IsShort, certificate_text}
 use Rattle.mss_check.specs.Tree.{end_of}
 use Rattle.mss_check.specs.Validity.{IsValid, Proves, peak_at_level, verdict_of}
-use Rattle.mss_tables.specs.TablesMeaning.{tables_fault, tables_in}
 use Rattle.mss_report.specs.CertificateTexts.{cert_fault_text_of, verdict_text_of}
 use Rattle.mss_command.specs.declared.status.Status.{Status}
 use Rattle.mss_command.specs.declared.status.Status.TheVariants as statuses
-use Rattle.mss_command.specs.Fetched.{Fetched, Missing, TooLong, Bytes, fetched}
-use Rattle.mss_command.specs.Gathered.{AllRead, gathered}
+use Rattle.mss_command.specs.Checks.{ChecksText, Format, StoresGood}
+use Rattle.mss_command.specs.Fetched.{Fetched}
+use Rattle.mss_command.specs.Lower.{TellsLower}
 use Rattle.mss_command.specs.Outcome.{Outcome, saying}
-use Rattle.mss_command.specs.Questions.{StoresTables}
+use Rattle.mss_command.specs.Tables.{StoresTables}
 
 abbrev pub certificate_file : List ℕ
 certificate_file = codes "certificate.txt"
@@ -53,29 +52,18 @@ pub record RefusesCertificate (rule : TableParts → List ℕ → Option ℕ) (t
 abbrev pub VerdictDefines : (TableParts → List ℕ → Option ℕ) → TableParts → Certificate → Outcome → Type 0
 VerdictDefines rule tables certificate o = AcceptsCertificate rule tables certificate o ⊎ RefusesCertificate rule tables certificate o
 
--- the file is the text of a certificate, and what that one gives is said
-pub record ReadsCertificate (rule : TableParts → List ℕ → Option ℕ) (tables : TableParts) (bytes : List ℕ) (o : Outcome) : Type 0 where
-  pub certificate : Certificate
-  pub short : IsShort certificate
-  pub text : bytes ≡ certificate_text certificate
-  pub defines : VerdictDefines rule tables certificate o
-
--- the file isn't the text of a certificate, and its first fault is said
-pub record RefusesFile (bytes : List ℕ) (o : Outcome) : Type 0 where
-  pub fault : CertFault
-  pub first : IsFaultAt bytes fault.kind fault.line
-  pub refuses : o ≡ saying statuses.Certificate (cert_fault_text_of fault)
+-- certificate.txt means the certificate of which it is the text, or has a first fault
+abbrev pub certificate_format : Format Certificate CertFault
+certificate_format = record {
+  Means = λ bytes certificate. IsShort certificate × (bytes ≡ certificate_text certificate);
+  IsFirst = λ bytes fault. IsFaultAt bytes fault.kind fault.line;
+  fault_text = cert_fault_text_of;
+  too_long = record { line = 0; kind = kinds.TooLong };
+}
 
 -- what is said under these tables where certificate.txt was read like this
 abbrev pub CheckDefines : (TableParts → List ℕ → Option ℕ) → TableParts → Fetched → Outcome → Type 0
-CheckDefines rule tables Missing o = ⊥
-CheckDefines rule tables TooLong o = o ≡ saying statuses.Certificate (cert_fault_text_of (record { line = 0; kind = kinds.TooLong }))
-CheckDefines rule tables (Bytes bytes) o = ReadsCertificate rule tables bytes o ⊎ RefusesFile bytes o
-
-abbrev pub check_may_answer : Status → Bool
-check_may_answer statuses.Done = true
-check_may_answer statuses.Certificate = true
-check_may_answer _ = false
+CheckDefines rule tables file o = ChecksText certificate_format (VerdictDefines rule tables) file o
 
 abbrev pub verdict_status : Verdict → Status
 verdict_status (Yes number) = statuses.Done
@@ -83,27 +71,17 @@ verdict_status (No line reason) = statuses.Certificate
 
 -- ---- what is promised
 
--- the text says that each legal cycle peaks at least at a number, and each does, at the level of the tables
-pub record EachPeaksAt (tables : TableParts) (text : List ℕ) : Type 0 where
-  pub number : ℕ
-  pub exact : text ≡ codes "certificate accepted: every legal cycle peaks at least at " ++ decimal number ++ codes "\n"
-  pub holds : (cycle : List ℕ) → IsLegal tables cycle → number ≤ peak tables cycle tables.level 1000000
-
 -- the text says that there is no legal cycle, and there is none
 pub record NoneIsLegal (tables : TableParts) (text : List ℕ) : Type 0 where
   pub exact : text ≡ codes "certificate accepted: no legal cycle\n"
   pub holds : (cycle : List ℕ) → ¬ IsLegal tables cycle
 
--- What the text says of the legal cycles under the tables that the ten files mean is so, whoever made the certificate.
+-- What the text says of the legal cycles under the tables that the ten files mean is so, whoever made the certificate:
+-- each peaks at least at a number, or there is none.
 pub record SaysTrue (files : Files) (text : List ℕ) : Type 0 where
   pub tables : TableParts
   pub stored : StoresTables files tables
-  pub holds : EachPeaksAt tables text ⊎ NoneIsLegal tables text
-
--- at status 0 the files are as before, and a text that says true was said
-abbrev pub CheckPromised : Status → Content → Content → Type 0
-CheckPromised status c d = status ≡ statuses.Done
-    → (text : List ℕ) × (d.said ≡ c.said ++ text) × (d.files ≡ c.files) × SaysTrue c.files text
+  pub holds : TellsLower (codes "certificate accepted: every legal cycle peaks at least at ") tables text ⊎ NoneIsLegal tables text
 
 -- ---- what is accepted
 
@@ -114,12 +92,7 @@ pub record IsValidText (rule : TableParts → List ℕ → Option ℕ) (tables :
   pub text : bytes ≡ certificate_text certificate
   pub valid : IsValid rule tables certificate
 
--- The ten files are there, within their limit and accepted, and certificate.txt is there, within its own, and is the text
--- of a certificate that is valid under the tables that they mean.
-pub record StoresValid (rule : TableParts → List ℕ → Option ℕ) (files : Files) : Type 0 where
-  pub tables : List (List ℕ)
-  pub read : gathered files ≡ AllRead tables
-  pub accepted : tables_fault tables ≡ None
-  pub bytes : List ℕ
-  pub stored : fetched certificate_limit files certificate_file ≡ Bytes bytes
-  pub valid : IsValidText rule (tables_in tables) bytes
+-- The ten files are stored, each within its limit, and mean tables; certificate.txt is stored within its own, and is the
+-- text of a certificate that is valid under them.
+abbrev pub StoresValid : (TableParts → List ℕ → Option ℕ) → Files → Type 0
+StoresValid rule files = StoresGood certificate_file certificate_limit (IsValidText rule) files

@@ -9,10 +9,12 @@ ghost use Rattle.mss_check.specs.Tree.{end_of, least_number};
 ghost use Rattle.mss_check.specs.Validity.{IsValid, Proves, peak_at_level, verdict_of};
 ghost use Rattle.mss_report.specs.CertificateTexts.{cert_fault_text_of};
 ghost use Rattle.mss_command.specs.Answers.{Prepares};
+ghost use Rattle.mss_command.specs.Checks.{check_may_answer};
 ghost use Rattle.mss_command.specs.Fetched.{IsWithin, fetched_of};
 ghost use Rattle.mss_command.specs.Outcome.{outcome_of, saying};
+ghost use Rattle.mss_command.specs.Promised.{SaysOnly};
 ghost use Rattle.mss_command.specs.Questions.{AskLacks, Asks, may_end_asking};
-ghost use Rattle.mss_certify.specs.Check.{CheckDefines, CheckPromised, VerdictDefines, certificate_file, certificate_limit, check_may_answer, verdict_status};
+ghost use Rattle.mss_certify.specs.Check.{CheckDefines, SaysTrue, VerdictDefines, certificate_file, certificate_limit, verdict_status};
 ghost use Rattle.mss_certify.specs.CheckLaws.{check_keeps};
 
 use mss_alike::{Canonical, RuleSet};
@@ -84,7 +86,7 @@ impl Command for Certification {
 
     ghost may_end = { λ command. may_end_asking check_may_answer };
 
-    ghost Promised = { λ command. CheckPromised };
+    ghost Promised = { λ command. SaysOnly SaysTrue };
 
     fn prepare<D: Desk, K: Kernel>(
         &self,

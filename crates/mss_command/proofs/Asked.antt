@@ -1,20 +1,21 @@
 -- What a question comes to, from the files that were gathered and its own file as it was read.
-use Rattle.std.proofs.Common.{◌≡◌, ◌≤◌, ◌⊎◌, ℕ, List, Bool, true, Option, Some, None, inl, inr, refl, sym, subst, arith}
+use Rattle.std.proofs.Common.{◌≡◌, ◌≤◌, ◌⊎◌, ℕ, List, Bool, Option, Some, None, Ok, inl, inr, refl, sym, ap, subst, ◌∙◌, arith}
 use Rattle.std.specs.Prelude.{IsTrue}
 use Rattle.mss_model.specs.PartsOf.{parts_of}
 use Rattle.mss_model.specs.declared.parts.TableParts.{TableParts}
 use Rattle.mss_model.specs.declared.table_set.Tables.{Tables}
-use Rattle.mss_desk.specs.Desk.{Content, IfTold, Rose}
+use Rattle.mss_desk.specs.Desk.{Content, Files, IfTold, Rose}
 use Rattle.mss_command.specs.declared.status.Status.{Status}
 use Rattle.mss_command.specs.declared.status.Status.TheVariants as statuses
 use Rattle.mss_command.specs.declared.tables.Judged.TheVariants as judged
 use Rattle.mss_command.specs.Answers.{IsLacking}
-use Rattle.mss_command.specs.Fetched.{Fetched, Missing}
-use Rattle.mss_command.specs.Gathered.{Gathered, AllRead, Lacking, Long, gathered}
+use Rattle.mss_command.specs.Fetched.{Fetched}
+use Rattle.mss_command.specs.Gathered.{Gathered, gathered}
+use Rattle.mss_command.specs.Judging.{Judges, RefusesTables}
 use Rattle.mss_command.specs.Outcome.{Outcome}
-use Rattle.mss_command.specs.Questions.{AskLacks, Asks, AsksGathered, IsUnwanted, LacksGathered, may_end_asking, wanted}
+use Rattle.mss_command.specs.Questions.{AskLacks, Asks, AsksRead, IsUnwanted, LacksRead, may_end_asking, wanted}
 use Rattle.mss_command.specs.Status.{ends_by}
-use Rattle.mss_command.specs.Tables.{Judges}
+use Rattle.mss_command.specs.Tables.{tables_gathered, tables_on}
 
 -- a status of an answer is one of the question
 pub ends_asking : (may_answer : Status → Bool) (status : Status) → IsTrue (ends_by may_answer status) → IsTrue (ends_by (may_end_asking may_answer) status)
@@ -30,31 +31,33 @@ ends_asking may_answer statuses.ReadFault h = h
 ends_asking may_answer statuses.WriteFault h = h
 ends_asking may_answer statuses.NoMemory h = h
 
+-- the tables that were made of gathered files are those on the desk
+made_on : (files : Files) (g : Gathered) (tables : Tables) → gathered files ≡ g → Judges g (judged.Tables tables) → tables_on files ≡ Some (Ok (parts_of tables))
+made_on files g tables is h = ap tables_gathered is ∙ h
+
 module _ (answers : TableParts → Fetched → Outcome → Type 0) (name : Option (List ℕ)) (limit : ℕ) where
-  -- the tables are accepted, and the question is answered under them
-  accepted : (g : Gathered) (tables : Tables) (file : Fetched) (o : Outcome) → Judges g (judged.Tables tables) → answers (parts_of tables) file o → AsksGathered answers g file o
-  accepted (AllRead files) tables file o h known = inl (record { accepted = h.accepted; answered = subst (λ p. answers p file o) h.meaning known })
-  accepted Lacking tables file o h known = absurd h
-  accepted (Long number) tables file o h known = absurd h
+  -- the tables are refused
+  pub refused : (t : Option Content) (g : Gathered) (o : Outcome) → IfTold t (λ c. gathered c.files ≡ g) → RefusesTables (tables_gathered g) o
+      → IfTold t (λ c. Asks answers name limit c.files o)
+  refused (Some c) g o is r =
+      subst (λ reading. AsksRead answers reading (wanted name limit c.files) o) (sym (ap tables_gathered is ∙ r.first)) r.refuses
+  refused None g o is r = tt
 
-  -- the tables are accepted, and the file of the question isn't there
-  lacking : (g : Gathered) (tables : Tables) (file : Fetched) → Judges g (judged.Tables tables) → file ≡ Missing → LacksGathered g file
-  lacking (AllRead files) tables file h missing = (h.accepted, missing)
-  lacking Lacking tables file h missing = absurd h
-  lacking (Long number) tables file h missing = absurd h
-
-  -- the same of what a desk tells
+  -- the question is answered under the tables
   defined : (t : Option Content) (g : Gathered) (tables : Tables) (file : Fetched) (o : Outcome)
       → IfTold t (λ c. gathered c.files ≡ g) → Judges g (judged.Tables tables)
       → IfTold t (λ c. wanted name limit c.files ≡ file) → answers (parts_of tables) file o
       → IfTold t (λ c. Asks answers name limit c.files o)
   defined (Some c) g tables file o is h read known =
-      accepted (gathered c.files) tables _ o (subst (λ g. Judges g (judged.Tables tables)) (sym is) h) (subst (λ f. answers (parts_of tables) f o) (sym read) known)
+      subst (λ reading. AsksRead answers reading (wanted name limit c.files) o) (sym (made_on c.files g tables is h))
+      (subst (λ f. answers (parts_of tables) f o) (sym read) known)
   defined None g tables file o is h read known = tt
 
+  -- the file of the question isn't there
   is_lacking : (t : Option Content) (g : Gathered) (tables : Tables) → IfTold t (λ c. gathered c.files ≡ g) → Judges g (judged.Tables tables)
       → IsUnwanted name limit t → IsLacking (AskLacks name limit) t
-  is_lacking (Some c) g tables is h missing = lacking (gathered c.files) tables _ (subst (λ g. Judges g (judged.Tables tables)) (sym is) h) missing
+  is_lacking (Some c) g tables is h missing =
+      subst (λ reading. LacksRead reading (wanted name limit c.files)) (sym (made_on c.files g tables is h)) missing
   is_lacking None g tables is h missing = missing
 
   -- the file was read after the tables were gathered, when the desk told the same

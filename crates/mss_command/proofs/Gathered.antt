@@ -1,10 +1,9 @@
 -- The files of the tables, read in turn.
-use Rattle.std.proofs.Common.{◌≡◌, ◌<◌, ◌≤◌, ℕ, zero, suc, ◌+◌, Bool, true, false, cond, ltb, List, [], ◌∷◌, length, map, get_or, Option, Some, None, refl, sym, ap, subst, ◌∙◌, arith, ◌⊎◌, inl, inr}
-use Rattle.std.specs.FinMap.{get}
+use Rattle.std.proofs.Common.{◌≡◌, ◌<◌, ◌≤◌, ℕ, zero, suc, ◌+◌, List, [], ◌∷◌, length, get_or, Option, Some, None, refl, sym, ap, subst, ◌∙◌, arith, ◌⊎◌, inl, inr}
 use Rattle.mss_desk.specs.Desk.{Files, Content, IfTold, IsMissing, Rose}
 use Rattle.mss_model.specs.Files.{file_name, table_names}
 use Rattle.mss_command.specs.Fetched.{Fetched, Missing, TooLong, Bytes, within, fetched, file_limit}
-use Rattle.mss_command.specs.Gathered.{Gathered, AllRead, Lacking, Long, IsOneMissing, and_then, gathered, gathered_from}
+use Rattle.mss_command.specs.Gathered.{AllRead, Lacking, Long, IsOneMissing, and_then, gathered, gathered_from}
 
 -- the first few files were read, and these are their bytes
 pub record AreRead (files : Files) (tables : List (List ℕ)) (count : ℕ) : Type 0 where

@@ -9,7 +9,7 @@ use Rattle.mss_command.specs.declared.status.Status.{Status}
 use Rattle.mss_command.specs.declared.status.Status.TheVariants as statuses
 use Rattle.mss_command.specs.Answers.{IsLacking, Prepares}
 use Rattle.mss_command.specs.Outcome.{Outcome, outcome_of}
-use Rattle.mss_command.specs.Status.{ends_by, is_plain}
+use Rattle.mss_command.specs.Status.{ends_by}
 
 -- why a call failed is passed on
 pub stop_is : {T : Type 0} (r : Result T Stop) (e x s : Stop) → r ≡ Err e → e ≡ x → r ≡ Err s → x ≡ s

@@ -1,13 +1,35 @@
--- What is made of the file of a cycle.
-use Rattle.std.specs.Prelude.{◌≡◌, ⊤, ℕ, List}
+-- What is made of the files of the tables, and of the file of a cycle.
+use Rattle.std.specs.Prelude.{◌≡◌, ⊤, ℕ, List, Option, Some, Result, Ok, Err}
 use Rattle.mss_model.specs.Legality.{IsLegal}
+use Rattle.mss_model.specs.PartsOf.{parts_of}
+use Rattle.mss_model.specs.declared.faults.TableFault.{TableFault}
 use Rattle.mss_model.specs.declared.parts.TableParts.{TableParts}
+use Rattle.mss_report.specs.Faults.{fault_text_of}
 use Rattle.mss_command.specs.declared.legal_cycle.JudgedCycle.{JudgedCycle}
 use Rattle.mss_command.specs.declared.legal_cycle.JudgedCycle.TheVariants as judged
 use Rattle.mss_command.specs.declared.status.Status.TheVariants as statuses
+use Rattle.mss_command.specs.declared.tables.Judged.{Judged}
+use Rattle.mss_command.specs.declared.tables.Judged.TheVariants as judged_tables
 use Rattle.mss_command.specs.Cycles.{GivesLegal, RefusesCycle, RefusesIllegal}
 use Rattle.mss_command.specs.Fetched.{Fetched}
-use Rattle.mss_command.specs.Outcome.{outcome_of}
+use Rattle.mss_command.specs.Gathered.{Gathered}
+use Rattle.mss_command.specs.Outcome.{Outcome, outcome_of, saying}
+use Rattle.mss_command.specs.Tables.{tables_gathered}
+
+-- ---- the tables
+
+-- the first fault of the tables as they read is said
+pub record RefusesTables (reading : Option (Result TableParts TableFault)) (o : Outcome) : Type 0 where
+  pub fault : TableFault
+  pub first : reading ≡ Some (Err fault)
+  pub refuses : o ≡ saying statuses.Tables (fault_text_of fault)
+
+-- what is made of the files as they were gathered
+abbrev pub Judges : Gathered → Judged → Type 0
+Judges g (judged_tables.Tables tables) = tables_gathered g ≡ Some (Ok (parts_of tables))
+Judges g (judged_tables.Refused reply) = RefusesTables (tables_gathered g) (outcome_of reply)
+
+-- ---- a cycle
 
 -- from the file as it was read
 abbrev pub JudgesCycle : TableParts → Fetched → JudgedCycle → Type 0

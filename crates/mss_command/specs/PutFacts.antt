@@ -88,3 +88,8 @@ module _ (puts : List (List ℕ × List ℕ)) (names : List (List ℕ)) (before 
 
   pub other_after : (name : List ℕ) → IsOther name names → get after name ≡ get before name
   other_after name other = ap (λ (m : Files). get m name) put ∙ put_all_other puts before name (subst (IsOther name) (sym are) other)
+
+  -- so is each file of other names
+  pub others_after : (others : List (List ℕ)) → AllByRecursion (λ other. IsOther other names) others → AllByRecursion (λ other. get after other ≡ get before other) others
+  others_after [] apart = tt
+  others_after (other ∷ others) apart = (other_after other apart.0, others_after others apart.1)

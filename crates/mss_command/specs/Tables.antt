@@ -1,31 +1,28 @@
--- The tables that the ten files mean, or why they are refused.
-use Rattle.std.specs.Prelude.{◌≡◌, ℕ, List, Some, None}
-use Rattle.mss_model.specs.PartsOf.{parts_of}
+-- The tables that the ten files of a desk mean.
+use Rattle.std.specs.Prelude.{◌≡◌, ℕ, List, map, Option, Some, None, Result, Ok, Err}
+use Rattle.std.specs.FinMap.{get}
+use Rattle.mss_model.specs.Files.{table_names}
 use Rattle.mss_model.specs.declared.faults.TableFault.{TableFault}
-use Rattle.mss_model.specs.declared.table_set.Tables.{Tables}
-use Rattle.mss_tables.specs.TablesMeaning.{tables_fault, tables_in}
-use Rattle.mss_report.specs.Faults.{fault_text_of}
-use Rattle.mss_command.specs.declared.status.Status.TheVariants as statuses
-use Rattle.mss_command.specs.declared.tables.Judged.{Judged}
-use Rattle.mss_command.specs.declared.tables.Judged.TheVariants as judged
-use Rattle.mss_command.specs.Gathered.{Gathered, AllRead, Long}
-use Rattle.mss_command.specs.Outcome.{Outcome, outcome_of, saying}
+use Rattle.mss_model.specs.declared.parts.TableParts.{TableParts}
+use Rattle.mss_desk.specs.Desk.{Files}
+use Rattle.mss_tables.specs.TablesMeaning.{AreWithin, tables_at}
+use Rattle.mss_command.specs.Gathered.{Gathered, AllRead, Lacking, Long, gathered}
 use Rattle.mss_command.specs.Refusals.{too_long}
 
--- the first fault of the files is said
-pub record RefusesTables (files : List (List ℕ)) (o : Outcome) : Type 0 where
-  pub fault : TableFault
-  pub first : tables_fault files ≡ Some fault
-  pub refuses : o ≡ saying statuses.Tables (fault_text_of fault)
+-- the tables as gathered files read: their meaning, or their first fault, where a file that is longer than its limit comes
+-- before all others; nothing where a file isn't there
+abbrev pub tables_gathered : Gathered → Option (Result TableParts TableFault)
+tables_gathered (AllRead files) = Some (tables_at files)
+tables_gathered (Long file) = Some (Err (too_long file))
+tables_gathered Lacking = None
 
--- the files are accepted, and these are the tables that they mean
-pub record MeansTables (files : List (List ℕ)) (tables : Tables) : Type 0 where
-  pub accepted : tables_fault files ≡ None
-  pub meaning : parts_of tables ≡ tables_in files
+-- the tables on a desk as they read
+abbrev pub tables_on : Files → Option (Result TableParts TableFault)
+tables_on files = tables_gathered (gathered files)
 
--- what is made of the files as they were gathered
-abbrev pub Judges : Gathered → Judged → Type 0
-Judges (AllRead files) (judged.Tables tables) = MeansTables files tables
-Judges (AllRead files) (judged.Refused reply) = RefusesTables files (outcome_of reply)
-Judges (Long file) (judged.Refused reply) = outcome_of reply ≡ saying statuses.Tables (fault_text_of (too_long file))
-Judges _ _ = ⊥
+-- the ten files are stored, each within its limit, and mean these tables
+pub record StoresTables (files : Files) (tables : TableParts) : Type 0 where
+  pub bytes : List (List ℕ)
+  pub stored : map (λ name. get files name) table_names ≡ map (λ file. Some file) bytes
+  pub within : AreWithin bytes
+  pub means : tables_at bytes ≡ Ok tables

@@ -3,6 +3,7 @@
 //! A command only reads and comes to a reply; `carry_out` delivers the reply, and its contract says for every command
 //! and every desk what was put and said at each status. A question about the tables says only what it answers under
 //! tables that are accepted; `ask` makes a command of it, and `judge_cycle` gives those about cycle.csv its legal cycle.
+//! `words` and `exit_code` are what a program does before and after its top call.
 #![tactic(auto)]
 
 mod command;
@@ -10,6 +11,7 @@ mod deliver;
 mod gather;
 mod legal_cycle;
 mod number;
+mod program;
 mod question;
 mod reading;
 mod refusal;
@@ -21,6 +23,7 @@ mod usage;
 pub use command::{Command, carry_out};
 pub use legal_cycle::{JudgedCycle, judge_cycle};
 pub use number::number_of;
+pub use program::{exit_code, words};
 pub use question::{Question, ask};
 pub use reading::{Contents, fetch};
 pub use refusal::{long_refusal, table_refusal};

@@ -1,7 +1,7 @@
 //! The tables that the ten files mean, or the reply that refuses them.
 ghost use Rattle.std.specs.Prelude.{IfOk};
 ghost use Rattle.mss_command.specs.Gathered.{AreWithinLimit, gathered_of};
-ghost use Rattle.mss_command.specs.Tables.{Judges};
+ghost use Rattle.mss_command.specs.Judging.{Judges};
 
 use crate::gather::Gathering;
 use crate::refusal::{long_refusal, table_refusal};
@@ -18,7 +18,7 @@ pub(crate) enum Judged {
 }
 
 /// The tables of the ten files, or the reply to the file that is too long or to the first fault of all.
-#[tactic(auto, using(crate::proofs::TablesRead::tables_meant, crate::proofs::TablesRead::tables_refused))]
+#[tactic(auto, using(crate::proofs::TablesRead::tables_refused, crate::proofs::TablesRead::long_refused))]
 pub(crate) fn tables_reply(alloc: Global, gathering: &Gathering) -> Result<Judged, NoMemory>
     requires { AreWithinLimit gathering.now }
     ensures { IfOk result (Judges (gathered_of gathering.now)) }

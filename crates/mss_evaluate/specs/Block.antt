@@ -4,7 +4,7 @@ use Rattle.std.specs.List.{All}
 use Rattle.std.specs.FinMap.{get}
 use Rattle.mss_model.specs.BlockAtAge.{BlockView}
 use Rattle.mss_model.specs.declared.faults.TableFault.{TableFault}
-use Rattle.mss_desk.specs.Desk.{Files, Content}
+use Rattle.mss_desk.specs.Desk.{Files}
 use Rattle.mss_tables.specs.BlockFile.{block_at}
 use Rattle.mss_report.specs.BlockText.{BlockLine, BlockLineHolds, PrintsBlock, block_line_text, block_subjects, subject}
 use Rattle.mss_report.specs.Faults.{fault_text_of}
@@ -54,8 +54,3 @@ pub record PrintedBlock (files : Files) (text : List ℕ) : Type 0 where
   pub exact : text ≡ codes "mss block 1\n" ++ flat_map block_line_text lines
   pub subjects : map subject lines ≡ block_subjects block
   pub hold : All (BlockLineHolds block) lines
-
--- at status 0 the files are as before, and a text with that meaning was said
-abbrev pub BlockPromised : Status → Content → Content → Type 0
-BlockPromised status c d = status ≡ statuses.Done
-    → (text : List ℕ) × (d.said ≡ c.said ++ text) × (d.files ≡ c.files) × PrintedBlock c.files text

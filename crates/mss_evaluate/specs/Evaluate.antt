@@ -1,7 +1,7 @@
 -- What the commands `evaluate` and `evaluate json` come to, and what they promise.
-use Rattle.std.specs.Prelude.{◌≡◌, ℕ, Bool, true, false, List, [], ◌++◌}
+use Rattle.std.specs.Prelude.{◌≡◌, ℕ, Bool, true, false, List, []}
 use Rattle.mss_model.specs.declared.parts.TableParts.{TableParts}
-use Rattle.mss_desk.specs.Desk.{Files, Content}
+use Rattle.mss_desk.specs.Desk.{Files}
 use Rattle.mss_report.specs.Evaluation.{Prints}
 use Rattle.mss_report.specs.Report.{ReportHolds, ReportView}
 use Rattle.mss_report.specs.ReportJson.{report_json}
@@ -11,7 +11,7 @@ use Rattle.mss_command.specs.declared.status.Status.TheVariants as statuses
 use Rattle.mss_command.specs.Cycles.{AsksCycle, IsStoredCycle}
 use Rattle.mss_command.specs.Fetched.{Fetched}
 use Rattle.mss_command.specs.Outcome.{Outcome}
-use Rattle.mss_command.specs.Questions.{StoresTables}
+use Rattle.mss_command.specs.Tables.{StoresTables}
 use Rattle.mss_evaluate.specs.declared.evaluation.Form.{Form}
 use Rattle.mss_evaluate.specs.declared.evaluation.Form.TheVariants as forms
 
@@ -47,8 +47,3 @@ pub record PrintedEvaluation (form : ReportView → List ℕ) (files : Files) (t
   pub report : ReportView
   pub exact : text ≡ form report
   pub hold : ReportHolds tables cycle report
-
--- at status 0 the files are as before, and a text with that meaning was said
-abbrev pub EvaluationPromised : (ReportView → List ℕ) → Status → Content → Content → Type 0
-EvaluationPromised form status c d = status ≡ statuses.Done
-    → (text : List ℕ) × (d.said ≡ c.said ++ text) × (d.files ≡ c.files) × PrintedEvaluation form c.files text

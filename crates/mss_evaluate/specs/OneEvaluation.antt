@@ -1,5 +1,5 @@
 -- `block`, `evaluate` and `evaluate json` come to one outcome over the same files.
-use Rattle.std.proofs.Common.{◌≡◌, ℕ, ◌<◌, ◌++◌, List, [], ◌∷◌, Option, Some, None, Result, Ok, Err, inl, inr, refl, sym, ap, subst, ◌∙◌, arith}
+use Rattle.std.proofs.Common.{◌≡◌, ℕ, ◌<◌, ◌++◌, List, [], ◌∷◌, inl, inr, sym, ap, subst, ◌∙◌, arith}
 use Rattle.std.specs.List.{All}
 use Rattle.std.proofs.lemmas.List.Elements.{All-head, All-tail}
 use Rattle.mss_model.specs.declared.parts.TableParts.{TableParts}
@@ -17,6 +17,7 @@ use Rattle.mss_command.specs.Fetched.{Fetched, Missing, TooLong, Bytes}
 use Rattle.mss_command.specs.OneCycle.{one_cycle}
 use Rattle.mss_command.specs.OneOutcome.{IsOneAnswer}
 use Rattle.mss_command.specs.Outcome.{Outcome, saying}
+use Rattle.mss_command.specs.ReadingLaws.{meaning_or_fault, same_fault, same_meaning}
 use Rattle.mss_evaluate.specs.Block.{BlockDefines}
 use Rattle.mss_evaluate.specs.Evaluate.{CycleDefines, EvaluatesCycle}
 
@@ -77,16 +78,6 @@ pub evaluation_is_one : (form : ReportView → List ℕ) → IsOneAnswer (CycleD
 evaluation_is_one form tables file o p a b = one_cycle (EvaluatesCycle form tables) tables file o p (evaluated form tables) a b
 
 -- ---- and so is that of a block
-
--- a reading gives one meaning or one fault
-same_meaning : {T F : Type 0} (a b : T) (reading : Result T F) → reading ≡ Ok a → reading ≡ Ok b → a ≡ b
-same_meaning a b reading one other = let same = sym one ∙ other in cc
-
-same_fault : {T F : Type 0} (a b : F) (reading : Result T F) → reading ≡ Err a → reading ≡ Err b → a ≡ b
-same_fault a b reading one other = let same = sym one ∙ other in cc
-
-meaning_or_fault : {T F : Type 0} (a : T) (b : F) (reading : Result T F) → reading ≡ Ok a → reading ≡ Err b → ⊥
-meaning_or_fault a b reading one other = let same = sym one ∙ other in cc
 
 pub block_is_one : (file : Fetched) (o p : Outcome) → BlockDefines file o → BlockDefines file p → o ≡ p
 block_is_one Missing o p a b = absurd a

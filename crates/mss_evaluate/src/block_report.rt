@@ -3,8 +3,9 @@ ghost use Rattle.std.specs.Prelude.{◌≡◌, IfOk, IsTrue};
 ghost use Rattle.mss_command.specs.Answers.{Prepares};
 ghost use Rattle.mss_command.specs.Fetched.{IsWithin, Missing, fetched, fetched_of, file_limit};
 ghost use Rattle.mss_command.specs.Outcome.{outcome_of};
+ghost use Rattle.mss_command.specs.Promised.{SaysOnly};
 ghost use Rattle.mss_command.specs.Status.{ends_by};
-ghost use Rattle.mss_evaluate.specs.Block.{BlockDefines, BlockPromised, block_file, block_may_end};
+ghost use Rattle.mss_evaluate.specs.Block.{BlockDefines, PrintedBlock, block_file, block_may_end};
 ghost use Rattle.mss_evaluate.specs.BlockLaws.{block_keeps};
 
 use mss_command::{Command, Contents, Reply, Status, Stop, fetch, long_refusal, table_refusal};
@@ -27,7 +28,7 @@ impl Command for BlockReport {
 
     ghost may_end = { λ command. block_may_end };
 
-    ghost Promised = { λ command. BlockPromised };
+    ghost Promised = { λ command. SaysOnly PrintedBlock };
 
     fn prepare<D: Desk, K: Kernel>(
         &self,

@@ -7,9 +7,10 @@ ghost use Rattle.mss_command.specs.Answers.{Prepares};
 ghost use Rattle.mss_command.specs.Cycles.{cycle_file};
 ghost use Rattle.mss_command.specs.Fetched.{IsWithin, fetched_of, file_limit};
 ghost use Rattle.mss_command.specs.Outcome.{outcome_of};
+ghost use Rattle.mss_command.specs.Promised.{SaysOnly};
 ghost use Rattle.mss_command.specs.Questions.{AskLacks, Asks, may_end_asking};
 ghost use Rattle.mss_report.specs.Evaluation.{Prints};
-ghost use Rattle.mss_evaluate.specs.Evaluate.{CycleDefines, EvaluationPromised, evaluation_may_answer, text_in};
+ghost use Rattle.mss_evaluate.specs.Evaluate.{CycleDefines, PrintedEvaluation, evaluation_may_answer, text_in};
 ghost use Rattle.mss_evaluate.specs.EvaluateLaws.{evaluation_keeps};
 
 use mss_command::{
@@ -76,7 +77,7 @@ impl Command for Evaluation {
 
     ghost may_end = { λ command. may_end_asking evaluation_may_answer };
 
-    ghost Promised = { λ command. EvaluationPromised (text_in command.form) };
+    ghost Promised = { λ command. SaysOnly (PrintedEvaluation (text_in command.form)) };
 
     fn prepare<D: Desk, K: Kernel>(
         &self,

@@ -1,10 +1,10 @@
 -- What `generate` leaves on a desk, in the words of the exact model.
-use Rattle.std.specs.Prelude.{◌≡◌, ◌≢◌, ℕ, ◌≤◌, false, List, ◌++◌, map, Some, None}
+use Rattle.std.specs.Prelude.{◌≡◌, ◌≢◌, ℕ, ◌≤◌, false, List, ◌++◌, Some}
 use Rattle.std.specs.List.{AllByRecursion}
 use Rattle.std.specs.FinMap.{get}
 use Rattle.mss_model.specs.Files.{table_names}
 use Rattle.mss_desk.specs.Desk.{Content}
-use Rattle.mss_tables.specs.TablesMeaning.{tables_fault, tables_in}
+use Rattle.mss_command.specs.Tables.{StoresTables}
 use Rattle.mss_report.specs.declared.plan.PlanSummary.{PlanSummary}
 use Rattle.mss_gen.specs.Generated.{generated}
 use Rattle.mss_gen.specs.declared.size.Size.{Size}
@@ -22,12 +22,13 @@ pub record AreNumbersOf (tables : TableParts) (s : PlanSummary) : Type 0 where
   pub lower : IsBelowAll tables s.lower
   pub closed : s.spent ≡ false → IsLeastOfAll tables s.upper
 
--- The ten files are those that are drawn from the number, and are accepted; each other file is as before. What was said
--- ends in the summary, whose numbers hold of the tables that the files mean.
+-- The ten files are stored, each within its limit, and mean tables; they are those that are drawn from the number, and each
+-- other file is as before. What was said ends in the summary, whose numbers hold of the tables.
 pub record Kept (number : ℕ) (size : Size) (c d : Content) : Type 0 where
-  pub stored : map (λ name. get d.files name) table_names ≡ map (λ file. Some file) (generated number size)
-  pub accepted : tables_fault (generated number size) ≡ None
+  pub tables : TableParts
+  pub stored : StoresTables d.files tables
+  pub drawn : stored.bytes ≡ generated number size
   pub others : (name : List ℕ) → AllByRecursion (λ other. name ≢ other) table_names → get d.files name ≡ get c.files name
   pub summary : PlanSummary
-  pub said : d.said ≡ c.said ++ generate_text number size (tables_in (generated number size)) summary
-  pub numbers : AreNumbersOf (tables_in (generated number size)) summary
+  pub said : d.said ≡ c.said ++ generate_text number size tables summary
+  pub numbers : AreNumbersOf tables summary

@@ -5,7 +5,6 @@ use Rattle.mss_model.specs.Files.{table_names}
 use Rattle.mss_model.specs.Legality.{broken_rule}
 use Rattle.mss_model.specs.declared.parts.TableParts.{TableParts}
 use Rattle.mss_desk.specs.Desk.{Content}
-use Rattle.mss_tables.specs.TablesMeaning.{tables_in}
 use Rattle.mss_search.specs.Promises.{IsIncumbent}
 use Rattle.mss_search.specs.Searching.{upper_of}
 use Rattle.mss_search.specs.declared.planner.Planned.{Planned}
@@ -14,7 +13,7 @@ use Rattle.mss_plan.specs.Plan.{IsPlan, summary_of}
 use Rattle.mss_command.specs.Outcome.{Outcome, Did}
 use Rattle.mss_gen.specs.Generated.{files_of, generated, tables_rows}
 use Rattle.mss_gen.specs.declared.size.Size.{Size}
-use Rattle.mss_gen.proofs.DrawFacts.{generated-accepted}
+use Rattle.mss_gen.proofs.DrawFacts.{generated-within}
 use Rattle.mss_generate.specs.Generates.{Generates}
 use Rattle.mss_generate.specs.Kept.{AreNumbersOf, Kept}
 use Rattle.mss_command.specs.PutFacts.{AreApart, apart_tested, other_after, stored_after}
@@ -55,10 +54,16 @@ generated_kept number size o c d defined did =
     let bytes : map (λ put. Some put.1) o.puts ≡ map (λ file. Some file) (generated number size) =
     ap (map (λ put. Some put.1)) defined.puts ∙ bytes-put (generated number size) (ten-files number size) in
     record {
-      stored = stored_after o.puts table_names c.files d.files names did.files apart ∙ bytes;
-      accepted = generated-accepted number size;
+      tables = defined.says.tables;
+      stored = record {
+        bytes = generated number size;
+        stored = stored_after o.puts table_names c.files d.files names did.files apart ∙ bytes;
+        within = generated-within number size;
+        means = defined.says.means;
+      };
+      drawn = refl;
       others = λ name other. other_after o.puts table_names c.files d.files names did.files name other;
       summary = summary_of defined.says.plan;
       said = did.said ∙ ap (λ text. c.said ++ text) defined.says.exact;
-      numbers = numbers-of (tables_in (generated number size)) defined.says.plan defined.says.is;
+      numbers = numbers-of defined.says.tables defined.says.plan defined.says.is;
     }

@@ -1,6 +1,6 @@
 //! The command.
 ghost use Rattle.std.specs.Prelude.{◌≡◌, None, IfOk, IsTrue};
-ghost use Rattle.mss_tables.specs.TablesMeaning.{AreWithin, tables_fault, tables_in};
+ghost use Rattle.mss_tables.specs.TablesMeaning.{AreWithin, tables_fault};
 ghost use Rattle.mss_command.specs.Answers.{Prepares};
 ghost use Rattle.mss_command.specs.Outcome.{Outcome, outcome_of};
 ghost use Rattle.mss_command.specs.Status.{ends_by};
@@ -76,7 +76,7 @@ fn plan_lines<K: Kernel>(
 ) -> Result<Text, NoMemory>
     requires accepted { tables_fault files.now ≡ None }
     requires within { AreWithin files.now }
-    ensures { IfOk result (SaysPlan command.now.number command.now.size (tables_in files.now)) }
+    ensures { IfOk result (SaysPlan command.now.number command.now.size files.now) }
 {
     let tables = tables_of(alloc, files)?;
     let planned = planned(alloc, kernel, &tables, RuleSet::Legal)?;

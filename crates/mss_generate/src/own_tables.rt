@@ -1,9 +1,9 @@
 //! The generated files: read back as tables, and put under their names.
-ghost use Rattle.std.specs.Prelude.{◌≡◌, ◌<◌, [], None, get_or, map, IfOk};
+ghost use Rattle.std.specs.Prelude.{◌≡◌, ◌<◌, [], None, Ok, get_or, map, IfOk};
 ghost use Rattle.mss_model.specs.Files.{file_name};
 ghost use Rattle.mss_model.specs.PartsOf.{parts_of};
 ghost use Rattle.mss_command.specs.Outcome.{put_of};
-ghost use Rattle.mss_tables.specs.TablesMeaning.{AreWithin, tables_fault, tables_in};
+ghost use Rattle.mss_tables.specs.TablesMeaning.{AreWithin, tables_at, tables_fault};
 ghost use Rattle.mss_generate.specs.Puts.{table_puts};
 
 use mss_command::Put;
@@ -15,7 +15,7 @@ use std::alloc::Global;
 pub(crate) fn tables_of(alloc: Global, files: &TableFiles) -> Result<Tables, NoMemory>
     requires accepted { tables_fault files.now ≡ None }
     requires within { AreWithin files.now }
-    ensures { IfOk result (λ tables. parts_of tables ≡ tables_in files.now) }
+    ensures { IfOk result (λ tables. tables_at files.now ≡ Ok (parts_of tables)) }
 {
     match read_tables(alloc, files) {
         Ok(tables) => Ok(tables),

@@ -3,17 +3,13 @@
 //! after each tenth of the tries how far it is, why a file or the output failed, and that memory was wanting.
 #![tactic(auto)]
 
+use mss_command::{exit_code, words};
 use mss_desk::FolderDesk;
 use mss_enclose::Plain;
-use mss_timetable::{Progress, Status, run};
-use std::env;
-use std::io::ErrorKind;
+use mss_timetable::{Progress, run};
 use std::process::ExitCode;
 
 const PROGRAM: &str = "mss_improve";
-
-// The system refused the words for another cause than want of memory.
-const NO_WORDS: u8 = 11;
 
 // A line on standard error after each tenth of the tries.
 #[derive(Drop)]
@@ -28,32 +24,12 @@ impl<'a, R: Eprint> Progress for Lines<'a, R> {
 }
 
 fn main(rt: HostRuntime) -> ExitCode {
-    let alloc = rt.alloc();
-    let mut words = Vec::new(alloc);
-    match env::args(&rt) {
-        Ok(args) => {
-            for word in args.skip(1) {
-                if words.push(word).is_err() {
-                    return end(rt, Status::NoMemory);
-                }
-            }
-        }
-        Err(e) if e.kind() == ErrorKind::OutOfMemory => return end(rt, Status::NoMemory),
-        Err(e) => {
-            let _ = eprintln!(rt; "{PROGRAM}: the words of the command line: {e}");
-            return ExitCode::from(NO_WORDS);
-        }
-    }
+    let words = match words(&rt, PROGRAM) {
+        Ok(words) => words,
+        Err(code) => return code,
+    };
     let mut desk = FolderDesk::make(rt, PROGRAM);
     let lines = Lines { rt: &rt };
-    let status = run(alloc, words.as_slice(), &mut desk, &Plain, &lines);
-    end(rt, status)
-}
-
-// The end with a status. Want of memory is told here; the desk told of reads and writes that failed.
-fn end(rt: HostRuntime, status: Status) -> ExitCode {
-    if status == Status::NoMemory {
-        let _ = eprintln!(rt; "{PROGRAM}: not enough memory");
-    }
-    ExitCode::from(status.number())
+    let status = run(rt.alloc(), words.as_slice(), &mut desk, &Plain, &lines);
+    exit_code(&rt, PROGRAM, status)
 }

@@ -1,7 +1,6 @@
 -- What the search over the members of a set of rules gives is a plan.
 use Rattle.std.proofs.Common.{◌≡◌, ℕ, ◌+◌, ◌*◌, ◌^◌, ◌≤◌, false, IsTrue, List, length, Option, Some, None, Result, Ok, Err, IfOk, refl, sym, subst, arith, mul-le-mul}
 use Rattle.std.specs.Prelude.{◌↔◌}
-use Rattle.mss_model.specs.Legality.{IsLegal}
 use Rattle.mss_model.specs.Limits.{IsTables}
 use Rattle.mss_model.specs.Peak.{peak}
 use Rattle.mss_model.specs.TableWords.{option_count}

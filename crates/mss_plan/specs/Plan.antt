@@ -26,8 +26,9 @@ use Rattle.mss_command.specs.declared.status.Status.{Status}
 use Rattle.mss_command.specs.declared.status.Status.TheVariants as statuses
 use Rattle.mss_command.specs.Cycles.{IsTextOf}
 use Rattle.mss_command.specs.Fetched.{Fetched}
+use Rattle.mss_command.specs.Lower.{EachPeaksAt}
 use Rattle.mss_command.specs.Outcome.{Outcome, put_all}
-use Rattle.mss_command.specs.Questions.{StoresTables}
+use Rattle.mss_command.specs.Tables.{StoresTables}
 
 abbrev pub planned_file : List ℕ
 planned_file = codes "planned.csv"
@@ -43,7 +44,7 @@ certificate_limit = 67108864
 
 -- each legal cycle peaks at least at the number; where there is none, no cycle is legal
 abbrev pub IsBelowAll : TableParts → Option ℕ → Type 0
-IsBelowAll tables (Some n) = (cycle : List ℕ) → IsLegal tables cycle → n ≤ peak_at_level tables cycle
+IsBelowAll tables (Some n) = EachPeaksAt tables n
 IsBelowAll tables None = (cycle : List ℕ) → IsLegal tables cycle → ⊥
 
 -- each legal cycle peaks at least at the number at a level 2^-30 higher; where there is none, no cycle is legal

@@ -12,8 +12,9 @@ use Rattle.mss_report.specs.PlanText.{PrintsPlan, plan_text_of}
 use Rattle.mss_command.specs.declared.status.Status.{Status}
 use Rattle.mss_command.specs.declared.status.Status.TheVariants as statuses
 use Rattle.mss_command.specs.Outcome.{Did, Outcome, put_all}
-use Rattle.mss_command.specs.Questions.{Asks, StoresTables}
+use Rattle.mss_command.specs.Questions.{Asks}
 use Rattle.mss_command.specs.QuestionLaws.{answered_or_refused}
+use Rattle.mss_command.specs.Tables.{StoresTables}
 use Rattle.mss_plan.specs.Plan.{IsCycleFile, IsPlan, PlanDefines, PlanPromised, PlansTables, PrintedPlan, PrintsCycle, PrintsNoCycle, plan_may_answer, summary_of}
 
 -- a refusal of the tables has none of the statuses of a plan

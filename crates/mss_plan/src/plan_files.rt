@@ -35,6 +35,7 @@ pub(crate) fn files(alloc: Global, tables: &Tables, planned: &Planned) -> Result
 }
 
 /// The text of the best cycle; no bytes where there is none.
+#[tactic(auto, using(mss_command::specs::CycleLaws::is_text_of))]
 fn cycle_file(alloc: Global, tables: &Tables, best: Option<&Cycle>) -> Result<Text, NoMemory>
     requires slots { IfSome best (λ cycle. length cycle.now ≡ slot_count (parts_of tables.now)) }
     requires options { IfSome best (λ cycle. All (λ option. option < option_count (parts_of tables.now)) cycle.now) }

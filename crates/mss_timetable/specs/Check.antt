@@ -1,22 +1,21 @@
 -- What the command `check` comes to, and what it promises.
-use Rattle.std.specs.Prelude.{◌≡◌, ◌⊎◌, ℕ, Bool, true, false, List, ◌++◌, None, IsTrue, codes, decimal}
+use Rattle.std.specs.Prelude.{◌≡◌, ◌⊎◌, ℕ, List, IsTrue, codes}
 use Rattle.mss_model.specs.declared.parts.TableParts.{TableParts}
-use Rattle.mss_desk.specs.Desk.{Files, Content}
+use Rattle.mss_desk.specs.Desk.{Files}
 use Rattle.mss_weights.specs.declared.faults.WeightsFault.{WeightsFault}
 use Rattle.mss_weights.specs.declared.faults.WeightsKind.TheVariants as kinds
 use Rattle.mss_weights.specs.declared.weights.Weights.{Weights}
 use Rattle.mss_weights.specs.Shown.{is_shown}
 use Rattle.mss_weights.specs.WeightsFaults.{IsFaultAt}
 use Rattle.mss_weights.specs.WeightsText.{IsShort, weights_text}
-use Rattle.mss_tables.specs.TablesMeaning.{tables_fault, tables_in}
-use Rattle.mss_command.specs.declared.status.Status.{Status}
 use Rattle.mss_command.specs.declared.status.Status.TheVariants as statuses
-use Rattle.mss_command.specs.Fetched.{Fetched, Missing, TooLong, Bytes, fetched}
-use Rattle.mss_command.specs.Gathered.{AllRead, gathered}
+use Rattle.mss_command.specs.Checks.{ChecksText, Format, StoresGood}
+use Rattle.mss_command.specs.Fetched.{Fetched}
+use Rattle.mss_command.specs.Lower.{EachPeaksAt, TellsLower}
 use Rattle.mss_command.specs.Outcome.{Outcome, saying}
-use Rattle.mss_command.specs.Questions.{StoresTables}
+use Rattle.mss_command.specs.Tables.{StoresTables}
 use Rattle.mss_timetable.specs.CheckTexts.{accepted_text, fault_text_of, not_shown_text}
-use Rattle.mss_timetable.specs.Lower.{EachPeaksAt, ShowsNumber, weights_file, weights_limit}
+use Rattle.mss_timetable.specs.Lower.{ShowsNumber, weights_file, weights_limit}
 
 -- ---- what is said
 
@@ -35,29 +34,18 @@ pub record RefusesWeights (tables : TableParts) (weights : Weights) (o : Outcome
 abbrev pub VerdictDefines : TableParts → Weights → Outcome → Type 0
 VerdictDefines tables weights o = AcceptsWeights tables weights o ⊎ RefusesWeights tables weights o
 
--- the file is the text of weights, and what is said of those is said
-pub record ReadsWeights (tables : TableParts) (bytes : List ℕ) (o : Outcome) : Type 0 where
-  pub weights : Weights
-  pub short : IsShort weights
-  pub text : bytes ≡ weights_text weights
-  pub defines : VerdictDefines tables weights o
-
--- the file isn't the text of weights, and its first fault is said
-pub record RefusesFile (bytes : List ℕ) (o : Outcome) : Type 0 where
-  pub fault : WeightsFault
-  pub first : IsFaultAt bytes fault.kind fault.line
-  pub refuses : o ≡ saying statuses.Certificate (fault_text_of fault)
+-- weights.txt means the weights of which it is the text, or has a first fault
+abbrev pub weights_format : Format Weights WeightsFault
+weights_format = record {
+  Means = λ bytes weights. IsShort weights × (bytes ≡ weights_text weights);
+  IsFirst = λ bytes fault. IsFaultAt bytes fault.kind fault.line;
+  fault_text = fault_text_of;
+  too_long = record { line = 0; kind = kinds.TooLong };
+}
 
 -- what is said under these tables where weights.txt was read like this
 abbrev pub CheckDefines : TableParts → Fetched → Outcome → Type 0
-CheckDefines tables Missing o = ⊥
-CheckDefines tables TooLong o = o ≡ saying statuses.Certificate (fault_text_of (record { line = 0; kind = kinds.TooLong }))
-CheckDefines tables (Bytes bytes) o = ReadsWeights tables bytes o ⊎ RefusesFile bytes o
-
-abbrev pub check_may_answer : Status → Bool
-check_may_answer statuses.Done = true
-check_may_answer statuses.Certificate = true
-check_may_answer _ = false
+CheckDefines tables file o = ChecksText weights_format (VerdictDefines tables) file o
 
 -- ---- what is promised
 
@@ -66,23 +54,11 @@ check_may_answer _ = false
 pub record SaysLower (files : Files) (text : List ℕ) : Type 0 where
   pub tables : TableParts
   pub stored : StoresTables files tables
-  pub number : ℕ
-  pub exact : text ≡ codes "weights accepted: every legal cycle peaks at least at " ++ decimal number ++ codes "\n"
-  pub holds : EachPeaksAt tables number
-
--- at status 0 the files are as before, and a text that says true was said
-abbrev pub CheckPromised : Status → Content → Content → Type 0
-CheckPromised status c d = status ≡ statuses.Done
-    → (text : List ℕ) × (d.said ≡ c.said ++ text) × (d.files ≡ c.files) × SaysLower c.files text
+  pub tells : TellsLower (codes "weights accepted: every legal cycle peaks at least at ") tables text
 
 -- ---- what is accepted
 
--- The ten files are there, within their limit and accepted, and weights.txt is there, within its own, and is the text of
--- weights that show this number under the tables that they mean.
-pub record StoresShown (files : Files) (number : ℕ) : Type 0 where
-  pub tables : List (List ℕ)
-  pub read : gathered files ≡ AllRead tables
-  pub accepted : tables_fault tables ≡ None
-  pub bytes : List ℕ
-  pub stored : fetched weights_limit files weights_file ≡ Bytes bytes
-  pub shows : ShowsNumber (tables_in tables) number bytes
+-- The ten files are stored, each within its limit, and mean tables; weights.txt is stored within its own, and is the text of
+-- weights that show this number under them.
+abbrev pub StoresShown : Files → ℕ → Type 0
+StoresShown files number = StoresGood weights_file weights_limit (λ tables bytes. ShowsNumber tables number bytes) files

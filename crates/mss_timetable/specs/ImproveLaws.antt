@@ -4,20 +4,15 @@ use Rattle.mss_model.specs.declared.parts.TableParts.{TableParts}
 use Rattle.mss_desk.specs.Desk.{Content}
 use Rattle.mss_command.specs.declared.status.Status.TheVariants as statuses
 use Rattle.mss_command.specs.Cycles.{cycle_file}
-use Rattle.mss_command.specs.CycleLaws.{cycle_or_refused}
+use Rattle.mss_command.specs.CycleLaws.{cycle_answered}
 use Rattle.mss_command.specs.Fetched.{Bytes, file_limit}
 use Rattle.mss_command.specs.Outcome.{Did, Outcome, put_all}
-use Rattle.mss_command.specs.Questions.{Asks, StoresTables, wanted}
-use Rattle.mss_command.specs.QuestionLaws.{answered_or_refused}
+use Rattle.mss_command.specs.Questions.{Asks, wanted}
+use Rattle.mss_command.specs.QuestionLaws.{answered, answered_or_refused}
+use Rattle.mss_command.specs.Tables.{StoresTables}
 use Rattle.mss_timetable.specs.Improves.{ImprovedNew, ImprovedToday, ImprovesCycle, NewDefines, NewPromised, PrintedImprovement, TodayDefines, TodayPromised, no_first_text}
 
 -- statuses that differ
-not_tables : (o : Outcome) → o.status ≡ statuses.Tables → o.status ≡ statuses.Done → ⊥
-not_tables o refused done = let z : statuses.Tables ≡ statuses.Done = sym refused ∙ done in cc
-
-not_cycle : (o : Outcome) → o.status ≡ statuses.Cycle → o.status ≡ statuses.Done → ⊥
-not_cycle o refused done = let z : statuses.Cycle ≡ statuses.Done = sym refused ∙ done in cc
-
 not_tables_spent : (o : Outcome) → o.status ≡ statuses.Tables → o.status ≡ statuses.SpentWithout → ⊥
 not_tables_spent o refused spent = let z : statuses.Tables ≡ statuses.SpentWithout = sym refused ∙ spent in cc
 
@@ -45,16 +40,15 @@ module _ (tries : ℕ) (o : Outcome) (c d : Content) (did : Did o c d) where
   today : (tables : TableParts) → StoresTables c.files tables → o.status ≡ statuses.Done → TodayDefines tries tables (wanted (Some cycle_file) file_limit c.files) o
       → ImprovedToday tries c.files d.files o.text
   today tables stored done known =
-      cycle_or_refused (ImprovesCycle tables tries) c.files tables o (ImprovedToday tries c.files d.files o.text) known
-      (λ refused. absurd (not_cycle o refused done))
+      cycle_answered (ImprovesCycle tables tries) c.files tables o (ImprovedToday tries c.files d.files o.text) known done
       (λ start given improves. record { tables = tables; stored = stored; start = start; today = given; printed = printed tables start improves })
 
   pub today_keeps : Asks (TodayDefines tries) (Some cycle_file) file_limit c.files o → TodayPromised tries o.status c d
   today_keeps known done = (
     o.text,
     did.said,
-    answered_or_refused (TodayDefines tries) c.files o (ImprovedToday tries c.files d.files o.text) (Some cycle_file) file_limit known
-        (λ refused. absurd (not_tables o refused done)) (λ tables stored answer. today tables stored done answer),
+    answered (TodayDefines tries) c.files o (ImprovedToday tries c.files d.files o.text) (Some cycle_file) file_limit known done
+        (λ tables stored answer. today tables stored done answer),
   )
 
   new_done : (tables : TableParts) → StoresTables c.files tables → o.status ≡ statuses.Done → NewDefines tries tables (Bytes []) o
@@ -73,8 +67,8 @@ module _ (tries : ℕ) (o : Outcome) (c d : Content) (did : Did o c d) where
     λ done. (
       o.text,
       did.said,
-      answered_or_refused (NewDefines tries) c.files o (ImprovedNew tries c.files d.files o.text) None 0 known
-          (λ refused. absurd (not_tables o refused done)) (λ tables stored answer. new_done tables stored done answer),
+      answered (NewDefines tries) c.files o (ImprovedNew tries c.files d.files o.text) None 0 known done
+          (λ tables stored answer. new_done tables stored done answer),
     ),
     λ spent. answered_or_refused (NewDefines tries) c.files o ((d.said ≡ c.said ++ no_first_text) × (d.files ≡ c.files)) None 0 known
         (λ refused. absurd (not_tables_spent o refused spent)) (λ tables stored answer. new_spent tables spent answer),

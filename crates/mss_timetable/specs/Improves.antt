@@ -11,11 +11,12 @@ use Rattle.mss_command.specs.declared.status.Status.{Status}
 use Rattle.mss_command.specs.declared.status.Status.TheVariants as statuses
 use Rattle.mss_command.specs.Cycles.{AsksCycle, IsStoredCycle, IsTextOf}
 use Rattle.mss_command.specs.Fetched.{Fetched}
+use Rattle.mss_command.specs.Lower.{EachPeaksAt}
 use Rattle.mss_command.specs.Outcome.{Outcome, put_all, saying}
-use Rattle.mss_command.specs.Questions.{StoresTables}
+use Rattle.mss_command.specs.Tables.{StoresTables}
 use Rattle.mss_local.specs.declared.improving.Effort.{Effort}
 use Rattle.mss_local.specs.declared.improving.Improved.{Improved}
-use Rattle.mss_timetable.specs.Lower.{EachPeaksAt, IsShownBy, weights_file}
+use Rattle.mss_timetable.specs.Lower.{IsShownBy, weights_file}
 use Rattle.mss_timetable.specs.Summary.{improved_text_of}
 use Rattle.mss_timetable.specs.declared.summary.Summary.{Summary}
 

@@ -1,7 +1,5 @@
--- A lower number of all legal cycles, and the file that shows it.
+-- The file that shows a lower number of all legal cycles.
 use Rattle.std.specs.Prelude.{◌≡◌, ◌⊎◌, ℕ, ◌≤◌, List, [], length, IsTrue, codes}
-use Rattle.mss_model.specs.Legality.{IsLegal}
-use Rattle.mss_model.specs.Peak.{peak}
 use Rattle.mss_model.specs.declared.parts.TableParts.{TableParts}
 use Rattle.mss_weights.specs.declared.weights.Weights.{Weights}
 use Rattle.mss_weights.specs.Shown.{is_shown}
@@ -13,10 +11,6 @@ weights_file = codes "weights.txt"
 -- the most bytes of weights.txt
 abbrev pub weights_limit : ℕ
 weights_limit = 1048576
-
--- each legal cycle peaks at least at the number, at the level of the tables
-abbrev pub EachPeaksAt : TableParts → ℕ → Type 0
-EachPeaksAt tables number = (cycle : List ℕ) → IsLegal tables cycle → number ≤ peak tables cycle tables.level 1000000
 
 -- the bytes are the text of weights that show this number under these tables
 pub record ShowsNumber (tables : TableParts) (number : ℕ) (bytes : List ℕ) : Type 0 where

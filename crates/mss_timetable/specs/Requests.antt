@@ -5,16 +5,18 @@ use Rattle.std.specs.String.{string_bytes}
 use Rattle.std.specs.declared.alloc.Global.{Global}
 use Rattle.mss_desk.specs.Desk.{Content, Files}
 use Rattle.mss_command.specs.declared.status.Status.{Status}
+use Rattle.mss_command.specs.Checks.{check_may_answer}
 use Rattle.mss_command.specs.Cycles.{cycle_file}
 use Rattle.mss_command.specs.Fetched.{file_limit}
 use Rattle.mss_command.specs.Numbers.{number_of_word}
 use Rattle.mss_command.specs.Outcome.{Outcome}
+use Rattle.mss_command.specs.Promised.{SaysOnly}
 use Rattle.mss_command.specs.Questions.{AskLacks, Asks, may_end_asking}
 use Rattle.mss_command.specs.Usage.{NothingPromised, UsageDefines, usage_may_end}
 use Rattle.mss_local.specs.declared.improving.Effort.{Effort}
 use Rattle.mss_timetable.specs.declared.request.Request.{Request}
 use Rattle.mss_timetable.specs.declared.request.Request.TheVariants.{Cycle, New, Check}
-use Rattle.mss_timetable.specs.Check.{CheckDefines, CheckPromised, check_may_answer}
+use Rattle.mss_timetable.specs.Check.{CheckDefines, SaysLower}
 use Rattle.mss_timetable.specs.Lower.{weights_file, weights_limit}
 use Rattle.mss_timetable.specs.Improves.{NewDefines, NewPromised, TodayDefines, TodayPromised, new_may_answer, today_may_answer}
 
@@ -86,4 +88,4 @@ abbrev pub Promised : Option Request → Status → Content → Content → Type
 Promised None status c d = NothingPromised status c d
 Promised (Some (Cycle effort)) status c d = TodayPromised effort.tries status c d
 Promised (Some (New effort)) status c d = NewPromised effort.tries status c d
-Promised (Some Check) status c d = CheckPromised status c d
+Promised (Some Check) status c d = SaysOnly SaysLower status c d

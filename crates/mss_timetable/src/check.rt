@@ -2,10 +2,12 @@
 ghost use Rattle.std.specs.Prelude.{◌≡◌, Some, IfOk, IsTrue};
 ghost use Rattle.mss_model.specs.PartsOf.{parts_of};
 ghost use Rattle.mss_command.specs.Answers.{Prepares};
+ghost use Rattle.mss_command.specs.Checks.{check_may_answer};
 ghost use Rattle.mss_command.specs.Fetched.{IsWithin, fetched_of};
 ghost use Rattle.mss_command.specs.Outcome.{outcome_of, saying};
+ghost use Rattle.mss_command.specs.Promised.{SaysOnly};
 ghost use Rattle.mss_command.specs.Questions.{AskLacks, Asks, may_end_asking};
-ghost use Rattle.mss_timetable.specs.Check.{CheckDefines, CheckPromised, VerdictDefines, check_may_answer};
+ghost use Rattle.mss_timetable.specs.Check.{CheckDefines, SaysLower, VerdictDefines};
 ghost use Rattle.mss_timetable.specs.CheckLaws.{check_keeps};
 ghost use Rattle.mss_timetable.specs.CheckTexts.{fault_text_of};
 ghost use Rattle.mss_timetable.specs.Lower.{weights_file, weights_limit};
@@ -76,7 +78,7 @@ impl Command for WeightsCheck {
 
     ghost may_end = { λ command. may_end_asking check_may_answer };
 
-    ghost Promised = { λ command. CheckPromised };
+    ghost Promised = { λ command. SaysOnly SaysLower };
 
     fn prepare<D: Desk, K: Kernel>(
         &self,

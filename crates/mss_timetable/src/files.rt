@@ -14,6 +14,7 @@ use mss_tables::cycle_text;
 use std::alloc::Global;
 
 /// The files of a search in the order in which they are put: the improved cycle, and what shows the lower number.
+#[tactic(auto, using(mss_command::specs::CycleLaws::is_text_of))]
 pub(crate) fn files(
     alloc: Global,
     tables: &Tables,

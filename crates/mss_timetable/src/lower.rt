@@ -1,7 +1,8 @@
 //! A lower number of all legal cycles.
 ghost use Rattle.std.specs.Prelude.{◌≡◌, IfOk};
 ghost use Rattle.mss_model.specs.PartsOf.{parts_of};
-ghost use Rattle.mss_timetable.specs.Lower.{EachPeaksAt, IsShownBy};
+ghost use Rattle.mss_command.specs.Lower.{EachPeaksAt};
+ghost use Rattle.mss_timetable.specs.Lower.{IsShownBy};
 
 use mss_enclose::Kernel;
 use mss_model::{NoMemory, Tables, Text};

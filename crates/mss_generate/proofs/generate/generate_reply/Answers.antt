@@ -1,6 +1,4 @@
 use Rattle.std.proofs.Common.{◌∙◌, refl, ap, subst}
-use Rattle.mss_model.specs.declared.parts.TableParts.{TableParts}
-use Rattle.mss_tables.specs.TablesMeaning.{tables_in}
 use Rattle.mss_generate.specs.Generates.{SaysPlan}
 use Rattle.mss_generate.specs.Puts.{table_puts}
 use Rattle.mss_generate.proofs.generate.generate_reply.Goals as goal
@@ -12,5 +10,5 @@ returns-clause-defines g c =
     record {
       status = refl;
       puts = c.in_ok-puts.ensures ∙ ap table_puts drawn;
-      says = subst (λ (t : TableParts). SaysPlan command.number command.size t c.in_ok-text.text) (ap tables_in drawn) c.in_ok-text.ensures;
+      says = subst (λ files. SaysPlan command.number command.size files c.in_ok-text.text) drawn c.in_ok-text.ensures;
     }

@@ -1,8 +1,8 @@
 use Rattle.std.proofs.Common.{map, refl, sym, ap, subst}
 use Rattle.mss_model.specs.PartsOf.{parts_of}
+use Rattle.mss_command.specs.Lower.{EachPeaksAt}
 use Rattle.mss_command.specs.Outcome.{put_of}
 use Rattle.mss_timetable.specs.Improves.{IsBetter, PutsImproved}
-use Rattle.mss_timetable.specs.Lower.{EachPeaksAt}
 use Rattle.mss_timetable.specs.declared.summary.Summary.{Summary}
 use Rattle.mss_timetable.proofs.Better.{better}
 use Rattle.mss_timetable.proofs.improved.improved_reply.Goals as goal
