@@ -148,6 +148,12 @@ def change_word(content, draws):
     return b"\n".join(lines)
 
 
+def change_version(content, draws):
+    """A certificate of the other version."""
+    one, other = pick(draws, [(b"mss certificate 1\n", b"mss certificate 2\n"), (b"mss certificate 2\n", b"mss certificate 1\n")])
+    return content.replace(one, other, 1)
+
+
 def change_bytes(content, draws):
     """Some bytes that are others, left out, put in, or cut off."""
     content = bytearray(content)
@@ -208,7 +214,7 @@ def change_all(content, draws):
 ANY = [change_bytes, change_ends, change_all, change_order]
 TABLE = [change_cell, change_cell, change_number, change_number, change_number, change_columns, *ANY]
 SETTINGS = [change_setting, change_setting, change_setting, *ANY]
-CERTIFICATE = [change_line, change_word, change_word, change_word, *ANY]
+CERTIFICATE = [change_version, change_line, change_word, change_word, change_word, *ANY]
 WEIGHTS = [change_weights_line, change_word, change_word, change_word, *ANY]
 
 
