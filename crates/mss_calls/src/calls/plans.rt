@@ -27,5 +27,7 @@ fn a_plan_goes_on_from_carried_lists(rt: HostRuntime) {
     assert_eq!(rt; planned.upper, Some(16));
     assert_eq!(rt; planned.certificate.end, End::Lower { number: 16 });
     assert_eq!(rt; planned.turns, 17);
-    assert!(rt; kernel.calls() >= 16 && kernel.calls() <= 200);
+    // Where k blocks are placed, the lists take one more, the idle child at most 16 - k floors, and the other child a block
+    // and at most 15 - k floors: 288 for k below 16. From the empty prefix each of them would take k more.
+    assert!(rt; kernel.calls() >= 16 && kernel.calls() <= 288);
 }
