@@ -1,10 +1,3 @@
 pub mod SameDay
 pub mod SuitNumbers
-pub mod Exchanges
-pub mod SlotCensus
-pub mod Kept
-pub mod Rising
-pub mod OneCycle
-pub mod CanonicalCycles
-pub mod RuleSets
 pub mod Loops

@@ -17,12 +17,12 @@ use Rattle.mss_alike.specs.SuitNumbers.{AreSuitNumbers, flag_number, suit_number
 
 -- ---- the numbers tell the flags
 
-same_digit : (x y i : ℕ) (apart : Bool) → (x == y) ≡ not apart → (x * 2 + i == y * 2 + i) ≡ not apart
+same_digit : (x y i : ℕ) (distinct : Bool) → (x == y) ≡ not distinct → (x * 2 + i == y * 2 + i) ≡ not distinct
 same_digit x y i true e = ne_eqb (x * 2 + i) (y * 2 + i) (λ h. true≢false (sym (eq-eqb x y (omega (arith, h))) ∙ e))
 same_digit x y i false e = eq-eqb (x * 2 + i) (y * 2 + i) (ap (λ z. z * 2 + i) (eqb-true x y e))
 
-one_digit : (x y : ℕ) (apart a b : Bool) → (x == y) ≡ not apart
-    → (x * 2 + (if a then 1 else 0) == y * 2 + (if b then 1 else 0)) ≡ not (apart || not (beq a b))
+one_digit : (x y : ℕ) (distinct a b : Bool) → (x == y) ≡ not distinct
+    → (x * 2 + (if a then 1 else 0) == y * 2 + (if b then 1 else 0)) ≡ not (distinct || not (beq a b))
 one_digit x y true true true e = same_digit x y 1 true e
 one_digit x y true false false e = same_digit x y 0 true e
 one_digit x y true true false e = ne_eqb (x * 2 + 1) (y * 2 + 0) (λ h. omega (arith, h))

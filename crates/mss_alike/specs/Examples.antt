@@ -14,6 +14,7 @@ one_day = record { parts = 10; patients = 3 ∷ 7 ∷ []; stays = 10 ∷ [] }
 abbrev two_rooms : ℕ → List ℕ → List ℕ → List ℕ → TableParts
 two_rooms days minutes fixed unsuited = record {
   days = days;
+  parts = one_day.parts;
   rooms = codes "A" ∷ codes "B" ∷ [];
   minutes = minutes;
   wards = codes "Main" ∷ [];
@@ -32,6 +33,7 @@ two_rooms days minutes fixed unsuited = record {
   level = 300000;
   levels = 300000 ∷ [];
   watch = 1 ∷ [];
+  allow = 0 ∷ [];
   budget = 1000;
 }
 

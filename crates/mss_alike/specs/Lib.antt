@@ -4,3 +4,10 @@ pub mod RuleSets
 pub mod Arranged
 pub mod Examples
 pub mod AlikeLaws
+pub mod CanonicalCyclesLaws
+pub mod RuleSetsLaws
+pub mod KeptLaws
+pub mod OneCycleLaws
+pub mod RisingLaws
+pub mod ExchangesLaws
+pub mod SlotCensusLaws

@@ -3,7 +3,7 @@ use Rattle.std.proofs.Common.{◌≡◌, ℕ, ◌-◌, ◌≤◌, false, List, [
 use Rattle.mss_model.specs.Occurrences.{lies_on}
 use Rattle.mss_enclose.specs.Kept.{joined_all}
 use Rattle.mss_census.specs.WardLists.{WardLists, slot_parts, census_list}
-use Rattle.mss_census.proofs.SlotPushes.{census-more}
+use Rattle.mss_census.specs.SlotPushesLaws.{census-more}
 
 module _ (j : List ℕ → List ℕ → List ℕ) (ls : WardLists) (w t slot option : ℕ) where
   census-next : (prefix : List ℕ) → length prefix ≡ slot → census_list j ls w t (prefix ++ option ∷ []) ≡ joined_all j (census_list j ls w t prefix) (slot_parts ls w t slot option)

@@ -1,4 +1,0 @@
-pub mod Digits
-pub mod SpacedNumbers
-pub mod OneLine
-pub mod FieldSizes

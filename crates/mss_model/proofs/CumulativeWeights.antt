@@ -1,17 +1,17 @@
 -- Cumulative weights of lists and of sums, at any two scales t and u.
 use Rattle.std.proofs.Common.{◌≡◌, ℕ, ◌+◌, ◌*◌, ◌≤◌, ◌<◌, zero, suc, refl, ◌∙◌, arith, List, [], ◌∷◌, length, sum, take_all, le_refl}
 use Rattle.std.proofs.lemmas.List.Sums.{sum_by-take-le}
-use Rattle.mss_model.specs.Distribution.{joint}
+use Rattle.mss_model.specs.Distribution.{convolution}
 use Rattle.mss_model.specs.Percentile.{cumulative}
 use Rattle.mss_model.proofs.Convolution.{conv, one, conv-same_left}
-use Rattle.mss_model.proofs.ListsAsFunctions.{at, sum-cons, cumulative-nil, cumulative-cons, cumulative-conv, at-joint}
+use Rattle.mss_model.proofs.ListsAsFunctions.{at, sum-cons, cumulative-nil, cumulative-cons, cumulative-conv, at-convolution}
 
 pub cumulative-le-sum : (e : List ℕ) (x : ℕ) → cumulative e x ≤ sum e
 cumulative-le-sum e x = sum_by-take-le (λ y. y) e (x + 1)
 
 -- the cumulative weights of a sum of two distributions
-pub cumulative-joint : (a b : List ℕ) → 0 < length a → 0 < length b → (x : ℕ) → cumulative (joint a b) x ≡ conv (conv (at a) (at b)) one x
-cumulative-joint a b ha hb x = cumulative-conv (joint a b) x ∙ conv-same_left (at (joint a b)) (conv (at a) (at b)) one x (at-joint a b ha hb)
+pub cumulative-convolution : (a b : List ℕ) → 0 < length a → 0 < length b → (x : ℕ) → cumulative (convolution a b) x ≡ conv (conv (at a) (at b)) one x
+cumulative-convolution a b ha hb x = cumulative-conv (convolution a b) x ∙ conv-same_left (at (convolution a b)) (conv (at a) (at b)) one x (at-convolution a b ha hb)
 
 -- smaller weights have a smaller sum
 pub sum-le : (a e : List ℕ) (t u : ℕ) → length a ≡ length e → ((x : ℕ) → at a x * t ≤ at e x * u) → sum a * t ≤ sum e * u

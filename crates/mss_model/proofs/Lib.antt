@@ -1,6 +1,6 @@
 pub mod Convolution
 pub mod ListsAsFunctions
-pub mod JointSums
+pub mod ConvolutionSums
 pub mod CumulativeWeights
 pub mod LeastNumber
 pub mod StochasticOrder
@@ -9,5 +9,6 @@ pub mod RangeSums
 pub mod RangeParts
 pub mod TwiceThinned
 pub mod ThinnedLists
+pub mod ChanceParts
 pub mod OffsetAges
 pub mod Largest

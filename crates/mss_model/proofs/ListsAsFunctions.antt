@@ -7,7 +7,7 @@ use Rattle.std.proofs.lemmas.List.Sums.{sum_by-cons}
 use Rattle.std.proofs.lemmas.List.FromFn.{get_or-map-range_with_len, length-map-range_with_len}
 use Rattle.std.proofs.lemmas.Grind.{same_number_lists}
 use Rattle.mss_model.specs.Sums.{sum_below}
-use Rattle.mss_model.specs.Distribution.{joint, joint_weight}
+use Rattle.mss_model.specs.Distribution.{convolution, convolution_weight}
 use Rattle.mss_model.specs.Percentile.{cumulative}
 use Rattle.mss_model.proofs.Convolution.{conv, one, conv-zero}
 
@@ -37,8 +37,8 @@ sum_below-conv (suc i) f g = omega (
 )
 
 -- the weights of a sum inside its length
-pub at-joint_in : (a b : List ℕ) (i : ℕ) → i < length a + length b - 1 → at (joint a b) i ≡ conv (at a) (at b) i
-at-joint_in a b i h = get_or-map-range_with_len (joint_weight a b) 0 (length a + length b - 1) i i 0 h (omega arith) ∙ rw (add-one) (sum_below-conv i (at a) (at b))
+pub at-convolution_in : (a b : List ℕ) (i : ℕ) → i < length a + length b - 1 → at (convolution a b) i ≡ conv (at a) (at b) i
+at-convolution_in a b i h = get_or-map-range_with_len (convolution_weight a b) 0 (length a + length b - 1) i i 0 h (omega arith) ∙ rw (add-one) (sum_below-conv i (at a) (at b))
 
 -- ---- the sum of two distributions as a product of polynomials, for sums and lengths by recursion
 
@@ -95,21 +95,21 @@ length-poly : (x : ℕ) (xs b : List ℕ) → 0 < length b → length (poly (x �
 length-poly x [] b h = omega (arith, length-plus (map (λ y. x * y) b) (0 ∷ []), length-scale x b)
 length-poly x (z ∷ zs) b h = omega (arith, length-plus (map (λ y. x * y) b) (0 ∷ poly (z ∷ zs) b), length-scale x b, length-poly z zs b h)
 
-pub length-joint : (a b : List ℕ) → length (joint a b) ≡ length a + length b - 1
-length-joint a b = length-map-range_with_len (joint_weight a b) 0 (length a + length b - 1)
+pub length-convolution : (a b : List ℕ) → length (convolution a b) ≡ length a + length b - 1
+length-convolution a b = length-map-range_with_len (convolution_weight a b) 0 (length a + length b - 1)
 
-pub joint-poly : (a b : List ℕ) → 0 < length a → 0 < length b → joint a b ≡ poly a b
-joint-poly [] b ha hb = absurd (omega arith)
-joint-poly (x ∷ xs) b ha hb =
-    let n : length (joint (x ∷ xs) b) ≡ length (poly (x ∷ xs) b) = omega (arith, length-joint (x ∷ xs) b, length-poly x xs b hb) in
-    same_number_lists (joint (x ∷ xs) b) (poly (x ∷ xs) b) n
-    (λ k lt. at-joint_in (x ∷ xs) b k (omega (arith, length-joint (x ∷ xs) b)) ∙ sym (at-poly (x ∷ xs) b k))
+pub convolution-poly : (a b : List ℕ) → 0 < length a → 0 < length b → convolution a b ≡ poly a b
+convolution-poly [] b ha hb = absurd (omega arith)
+convolution-poly (x ∷ xs) b ha hb =
+    let n : length (convolution (x ∷ xs) b) ≡ length (poly (x ∷ xs) b) = omega (arith, length-convolution (x ∷ xs) b, length-poly x xs b hb) in
+    same_number_lists (convolution (x ∷ xs) b) (poly (x ∷ xs) b) n
+    (λ k lt. at-convolution_in (x ∷ xs) b k (omega (arith, length-convolution (x ∷ xs) b)) ∙ sym (at-poly (x ∷ xs) b k))
 
-pub sum-joint : (a b : List ℕ) → 0 < length a → 0 < length b → sum (joint a b) ≡ sum a * sum b
-sum-joint a b ha hb = rw (joint-poly a b ha hb) (sum-poly a b)
+pub sum-convolution : (a b : List ℕ) → 0 < length a → 0 < length b → sum (convolution a b) ≡ sum a * sum b
+sum-convolution a b ha hb = rw (convolution-poly a b ha hb) (sum-poly a b)
 
-pub at-joint : (a b : List ℕ) → 0 < length a → 0 < length b → (i : ℕ) → at (joint a b) i ≡ conv (at a) (at b) i
-at-joint a b ha hb i = rw (joint-poly a b ha hb) (at-poly a b i)
+pub at-convolution : (a b : List ℕ) → 0 < length a → 0 < length b → (i : ℕ) → at (convolution a b) i ≡ conv (at a) (at b) i
+at-convolution a b ha hb i = rw (convolution-poly a b ha hb) (at-poly a b i)
 
 -- cumulative sums are a convolution with ones
 pub cumulative-nil : (i : ℕ) → cumulative [] i ≡ 0

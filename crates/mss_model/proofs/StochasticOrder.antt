@@ -1,12 +1,12 @@
 -- The stochastic order of distributions: kept by sums, and percentiles follow it.
 use Rattle.std.proofs.Common.{ℕ, ◌*◌, ◌≤◌, ◌<◌, zero, suc, ◌∙◌, arith, List, length, sum, mul-pos, mul-le-mul_left, mul-le-mul_right, le_of_mul-le-mul_right, le_refl, nat_le, le-leb, leb-true}
-use Rattle.mss_model.specs.Distribution.{joint}
+use Rattle.mss_model.specs.Distribution.{convolution}
 use Rattle.mss_model.specs.Percentile.{cumulative, percentile}
 use Rattle.mss_model.proofs.Convolution.{conv, one, conv-change, conv-exchange}
-use Rattle.mss_model.proofs.ListsAsFunctions.{at, cumulative-conv, sum-joint}
-use Rattle.mss_model.proofs.JointSums.{nonempty}
+use Rattle.mss_model.proofs.ListsAsFunctions.{at, cumulative-conv, sum-convolution}
+use Rattle.mss_model.proofs.ConvolutionSums.{nonempty}
 use Rattle.mss_model.proofs.LeastNumber.{least-le-longer}
-use Rattle.mss_model.proofs.CumulativeWeights.{cumulative-joint, conv-cumulative, sum-fits, cumulative-le-cumulative}
+use Rattle.mss_model.proofs.CumulativeWeights.{cumulative-convolution, conv-cumulative, sum-fits, cumulative-le-cumulative}
 
 -- d lies stochastically at or below e: its cumulative chances are at least those of e
 pub record AtOrBelow (d e : List ℕ) : Type 0 where
@@ -19,19 +19,19 @@ conv-le-top f g m zero h = omega (arith, mul-le-mul_left (f 0) (h 0 (omega arith
 conv-le-top f g m (suc i) h = omega (arith, mul-le-mul_left (f 0) (h (suc i) (omega arith)), conv-le-top (λ k. f (suc k)) g m i (λ y l. h y (omega arith)))
 
 -- the order is kept by a sum with one distribution (on the right)
-pub below-joint : (d e f : List ℕ) → AtOrBelow d e → 0 < sum f → AtOrBelow (joint d f) (joint e f)
-below-joint d e f h pf =
+pub below-convolution : (d e f : List ℕ) → AtOrBelow d e → 0 < sum f → AtOrBelow (convolution d f) (convolution e f)
+below-convolution d e f h pf =
     let nd : 0 < length d = nonempty d h.d_positive in
     let ne : 0 < length e = nonempty e h.e_positive in
     let nf : 0 < length f = nonempty f pf in
     record {
-      d_positive = rw (sum-joint d f nd nf) (mul-pos h.d_positive pf);
-      e_positive = rw (sum-joint e f ne nf) (mul-pos h.e_positive pf);
+      d_positive = rw (sum-convolution d f nd nf) (mul-pos h.d_positive pf);
+      e_positive = rw (sum-convolution e f ne nf) (mul-pos h.e_positive pf);
       more = λ x. rw (
-        sum-joint d f nd nf,
-        sum-joint e f ne nf,
-        cumulative-joint d f nd nf x ∙ conv-exchange (at d) (at f) one x,
-        cumulative-joint e f ne nf x ∙ conv-exchange (at e) (at f) one x,
+        sum-convolution d f nd nf,
+        sum-convolution e f ne nf,
+        cumulative-convolution d f nd nf x ∙ conv-exchange (at d) (at f) one x,
+        cumulative-convolution e f ne nf x ∙ conv-exchange (at e) (at f) one x,
       )
           (omega (
             arith,
@@ -42,14 +42,14 @@ below-joint d e f h pf =
     }
 
 -- a part lies at or below the sum
-pub below-part : (e f : List ℕ) → 0 < sum e → 0 < sum f → AtOrBelow e (joint e f)
+pub below-part : (e f : List ℕ) → 0 < sum e → 0 < sum f → AtOrBelow e (convolution e f)
 below-part e f pe pf =
     let ne : 0 < length e = nonempty e pe in
     let nf : 0 < length f = nonempty f pf in
     record {
       d_positive = pe;
-      e_positive = rw (sum-joint e f ne nf) (mul-pos pe pf);
-      more = λ x. rw (sum-joint e f ne nf, cumulative-joint e f ne nf x ∙ conv-exchange (at e) (at f) one x)
+      e_positive = rw (sum-convolution e f ne nf) (mul-pos pe pf);
+      more = λ x. rw (sum-convolution e f ne nf, cumulative-convolution e f ne nf x ∙ conv-exchange (at e) (at f) one x)
           (omega (arith, part_weighs e f x));
     }
   where

@@ -1,8 +1,13 @@
 -- A block of one specialty, and how many of its patients are there at an age.
-use Rattle.std.specs.Prelude.{◌≡◌, ℕ, ◌+◌, ◌-◌, ◌^◌, ◌<◌, ◌≤◌, ◌≢◌, List, [], ◌∷◌, slice_index, length, sum}
+use Rattle.std.specs.Prelude.{◌≡◌, ℕ, ◌+◌, ◌-◌, ◌^◌, ◌<◌, ◌≤◌, ◌≢◌, ◌==◌, ◌||◌, true, List, [], ◌∷◌, slice_index, length, sum}
 use Rattle.std.specs.List.{All}
 use Rattle.mss_model.specs.Presence.{presence}
 use Rattle.mss_model.specs.Thinning.{thinned_by}
+use Rattle.mss_model.specs.declared.one_block.TheConstants.{PARTS, FINE_PARTS}
+
+-- chances are whole numbers of parts of a million, or of a thousand million
+pub record IsParts (parts : ℕ) : Type 0 where
+  pub known : (parts == PARTS || parts == FINE_PARTS) ≡ true
 
 -- The chances are whole numbers of `parts`. `patients` has the chance of 0, 1, 2 and so on patients, and `stays` the
 -- chance of discharge at the ages 0, 1, 2 and so on days.
@@ -27,13 +32,13 @@ pub record IsStays (parts : ℕ) (stays : List ℕ) : Type 0 where
 
 -- a block within the limits
 pub record IsBlock (b : BlockView) : Type 0 where
-  pub some_parts : 1 ≤ b.parts
+  pub parts_good : IsParts b.parts
   pub patients_good : IsPatients b.parts b.patients
   pub stays_good : IsStays b.parts b.stays
 
 -- what stands for the block of a specialty that isn't there: nobody comes
 abbrev pub no_block : BlockView
-no_block = record { parts = 1; patients = 1 ∷ []; stays = 1 ∷ [] }
+no_block = record { parts = PARTS; patients = PARTS ∷ []; stays = PARTS ∷ [] }
 
 -- The distribution of those of a block who are there at an age: each patient with the chance of presence, in one
 -- jump from the day of surgery.

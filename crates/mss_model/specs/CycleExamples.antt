@@ -1,6 +1,7 @@
 -- Worked examples of whole cycles, each proved by computing.
 use Rattle.std.specs.Prelude.{◌≡◌, ℕ, List, [], ◌∷◌, map, Some, None, codes, refl, replicate}
 use Rattle.mss_model.specs.declared.parts.TableParts.{TableParts}
+use Rattle.mss_model.specs.TableWords.{day_of, room_of}
 use Rattle.mss_model.specs.BlockAtAge.{BlockView}
 use Rattle.mss_model.specs.Occurrences.{occurrences}
 use Rattle.mss_model.specs.Census.{census}
@@ -9,10 +10,11 @@ use Rattle.mss_model.specs.Percentile.{percentile}
 use Rattle.mss_model.specs.Peak.{peak}
 use Rattle.mss_model.specs.Legality.{broken_rule}
 
--- one room `A`, open 480 minutes on each of some days, and one specialty `X` of a ward that is watched
-abbrev one_room : ℕ → BlockView → TableParts
-one_room days block = record {
+-- one room `A`, open 480 minutes on each of some days, and one specialty `X`, of whose ward so many beds are always taken
+abbrev room_with : ℕ → BlockView → List ℕ → ℕ → TableParts
+room_with days block watch allow = record {
   days = days;
+  parts = block.parts;
   rooms = codes "A" ∷ [];
   minutes = replicate days 480;
   wards = codes "Main" ∷ [];
@@ -30,9 +32,14 @@ one_room days block = record {
   fixed = replicate days 0;
   level = 500000;
   levels = 500000 ∷ [];
-  watch = 1 ∷ [];
+  watch = watch;
+  allow = allow ∷ [];
   budget = 1000;
 }
+
+-- the same with a ward that is watched, and no such beds
+abbrev one_room : ℕ → BlockView → TableParts
+one_room days block = room_with days block (1 ∷ []) 0
 
 -- one patient, who stays for a second day with chance 1 / 2
 abbrev may_stay : BlockView
@@ -48,6 +55,14 @@ overlap_median = refl
 
 overlap_above : peak (one_room 1 may_stay) (1 ∷ []) 500001 1000000 ≡ 2
 overlap_above = refl
+
+-- where three beds of the ward are always taken, the peak is three more
+overlap_and_three : peak (room_with 1 may_stay (1 ∷ []) 3) (1 ∷ []) 500000 1000000 ≡ 4
+overlap_and_three = refl
+
+-- the peak of a ward doesn't count where it isn't watched
+unwatched_peak : peak (room_with 1 may_stay [] 0) (1 ∷ []) 500000 1000000 ≡ 0
+unwatched_peak = refl
 
 -- one is admitted each day, and nobody, one or two are discharged, in 8, 16 and 8 of 32 ways
 overlap_admitted : admissions (one_room 1 may_stay) 1 1 (1 ∷ []) ≡ 0 ∷ 2 ∷ []
@@ -98,6 +113,7 @@ week_peak = refl
 abbrev one_microscope : TableParts
 one_microscope = record {
   days = 1;
+  parts = may_stay.parts;
   rooms = codes "A" ∷ codes "B" ∷ [];
   minutes = 480 ∷ 480 ∷ [];
   wards = codes "Main" ∷ [];
@@ -116,8 +132,16 @@ one_microscope = record {
   level = 500000;
   levels = 500000 ∷ [];
   watch = 1 ∷ [];
+  allow = 0 ∷ [];
   budget = 1000;
 }
+
+-- with two rooms, slot 3 is the second room of day 2
+second_day : day_of one_microscope 3 ≡ 2
+second_day = refl
+
+second_room : room_of one_microscope 3 ≡ 2
+second_room = refl
 
 one_block_fits : broken_rule one_microscope (1 ∷ 0 ∷ []) ≡ None
 one_block_fits = refl
@@ -137,6 +161,7 @@ all_idle = refl
 abbrev two_specialties : TableParts
 two_specialties = record {
   days = 1;
+  parts = may_stay.parts;
   rooms = codes "A" ∷ codes "B" ∷ codes "C" ∷ codes "D" ∷ [];
   minutes = 480 ∷ 480 ∷ 480 ∷ 480 ∷ [];
   wards = codes "Main" ∷ [];
@@ -155,6 +180,7 @@ two_specialties = record {
   level = 500000;
   levels = 500000 ∷ [];
   watch = 1 ∷ [];
+  allow = 0 ∷ [];
   budget = 1000;
 }
 

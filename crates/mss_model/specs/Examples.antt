@@ -3,7 +3,7 @@ use Rattle.std.specs.Prelude.{◌≡◌, [], ◌∷◌, refl}
 use Rattle.mss_model.specs.Presence.{presence}
 use Rattle.mss_model.specs.Thinning.{thinning_weight, thinned_by}
 use Rattle.mss_model.specs.BlockAtAge.{block_at_age}
-use Rattle.mss_model.specs.Distribution.{joint, joint_all}
+use Rattle.mss_model.specs.Distribution.{convolution, convolution_all}
 use Rattle.mss_model.specs.Percentile.{cumulative, percentile, moment}
 use Rattle.mss_model.specs.Occurrences.{offset, offset_ages}
 
@@ -45,10 +45,10 @@ two_later : block_at_age (record { parts = 1000000; patients = 0 ∷ 0 ∷ 10000
 two_later = refl
 
 -- two fair coins: no head in one of four ways, one in two, both in one
-two_coins : joint (1 ∷ 1 ∷ []) (1 ∷ 1 ∷ []) ≡ 1 ∷ 2 ∷ 1 ∷ []
+two_coins : convolution (1 ∷ 1 ∷ []) (1 ∷ 1 ∷ []) ≡ 1 ∷ 2 ∷ 1 ∷ []
 two_coins = refl
 
-three_coins : joint_all ((1 ∷ 1 ∷ []) ∷ (1 ∷ 1 ∷ []) ∷ (1 ∷ 1 ∷ []) ∷ []) ≡ 1 ∷ 3 ∷ 3 ∷ 1 ∷ []
+three_coins : convolution_all ((1 ∷ 1 ∷ []) ∷ (1 ∷ 1 ∷ []) ∷ (1 ∷ 1 ∷ []) ∷ []) ≡ 1 ∷ 3 ∷ 3 ∷ 1 ∷ []
 three_coins = refl
 
 one_head_at_most : cumulative (1 ∷ 3 ∷ 3 ∷ 1 ∷ []) 1 ≡ 4

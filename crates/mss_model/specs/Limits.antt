@@ -1,9 +1,9 @@
 -- The limits of tables.
-use Rattle.std.specs.Prelude.{◌≡◌, ◌≢◌, ℕ, ◌+◌, ◌*◌, ◌<◌, ◌≤◌, List, [], length, get_or, slice_index, true}
+use Rattle.std.specs.Prelude.{◌≡◌, ◌≢◌, ℕ, ◌+◌, ◌*◌, ◌<◌, ◌≤◌, List, [], length, get_or, slice_index, true, false}
 use Rattle.std.specs.List.{All}
-use Rattle.mss_model.specs.BlockAtAge.{IsBlock}
+use Rattle.mss_model.specs.BlockAtAge.{BlockView, IsParts, IsBlock, no_block}
 use Rattle.mss_model.specs.NameRule.{is_name_text}
-use Rattle.mss_model.specs.TableWords.{slot_count, specialty_count, ward_count, kind_count, room_count}
+use Rattle.mss_model.specs.TableWords.{slot_count, specialty_count, ward_count, kind_count, room_count, is_watched}
 use Rattle.mss_model.specs.declared.parts.TableParts.{TableParts}
 
 -- a number from low to high
@@ -20,12 +20,12 @@ pub record AreNumbers (n low high : ℕ) (numbers : List ℕ) : Type 0 where
   pub between : AreBetween low high numbers
 
 -- no two numbers are equal
-abbrev pub AreApart : List ℕ → Type 0
-AreApart numbers = (i j : ℕ) → i < j → j < length numbers → slice_index numbers i ≢ slice_index numbers j
+abbrev pub AreDistinct : List ℕ → Type 0
+AreDistinct numbers = (i j : ℕ) → i < j → j < length numbers → slice_index numbers i ≢ slice_index numbers j
 
 -- no two names are equal
-abbrev pub AreNamesApart : List (List ℕ) → Type 0
-AreNamesApart names = (i j : ℕ) → i < j → j < length names → get_or names i [] ≢ get_or names j []
+abbrev pub AreNamesDistinct : List (List ℕ) → Type 0
+AreNamesDistinct names = (i j : ℕ) → i < j → j < length names → get_or names i [] ≢ get_or names j []
 
 -- the name keeps the name rule
 pub record IsName (name : List ℕ) : Type 0 where
@@ -39,7 +39,7 @@ AreNamed names = (i : ℕ) → i < length names → IsName (get_or names i [])
 pub record AreNames (low high : ℕ) (names : List (List ℕ)) : Type 0 where
   pub count : Between low high (length names)
   pub named : AreNamed names
-  pub apart : AreNamesApart names
+  pub distinct : AreNamesDistinct names
 
 -- the days and rooms, and what is said of each slot
 pub record AreSlots (t : TableParts) : Type 0 where
@@ -48,7 +48,11 @@ pub record AreSlots (t : TableParts) : Type 0 where
   pub minutes : AreNumbers (slot_count t) 0 1440 t.minutes
   pub fixed : AreNumbers (slot_count t) 0 (specialty_count t + 1) t.fixed
 
--- the specialties with their wards, daily numbers and blocks
+-- the chances of each block are in so many parts
+abbrev pub AreInParts : ℕ → List BlockView → Type 0
+AreInParts parts blocks = (place : ℕ) → place < length blocks → (get_or blocks place no_block).parts ≡ parts
+
+-- the specialties with their wards, daily numbers and blocks, whose chances are all in the same parts
 pub record AreSpecialties (t : TableParts) : Type 0 where
   pub names : AreNames 1 24 t.specialties
   pub wards : AreNames 1 8 t.wards
@@ -56,6 +60,8 @@ pub record AreSpecialties (t : TableParts) : Type 0 where
   pub daily : AreNumbers (specialty_count t) 0 16 t.daily
   pub blocks : length t.blocks ≡ specialty_count t
   pub blocks_good : All IsBlock t.blocks
+  pub parts_good : IsParts t.parts
+  pub same_parts : AreInParts t.parts t.blocks
 
 -- the minutes that each specialty is to have
 pub record AreTargets (t : TableParts) : Type 0 where
@@ -78,8 +84,13 @@ pub record AreSettings (t : TableParts) : Type 0 where
   pub levels : AreBetween 1 999999 t.levels
   pub some_watch : Between 1 8 (length t.watch)
   pub watch : AreBetween 1 (ward_count t) t.watch
-  pub apart : AreApart t.watch
+  pub distinct : AreDistinct t.watch
   pub budget : Between 1 20000 t.budget
+
+-- the beds that are always taken: a number for each ward, and none where its peak doesn't count
+pub record AreAllowances (t : TableParts) : Type 0 where
+  pub numbers : AreNumbers (ward_count t) 0 1000 t.allow
+  pub watched : (place : ℕ) → place < ward_count t → is_watched t (place + 1) ≡ false → slice_index t.allow place ≡ 0
 
 -- tables within the limits
 pub record IsTables (t : TableParts) : Type 0 where
@@ -88,3 +99,4 @@ pub record IsTables (t : TableParts) : Type 0 where
   pub targets : AreTargets t
   pub needs : AreNeeds t
   pub settings : AreSettings t
+  pub allowances : AreAllowances t

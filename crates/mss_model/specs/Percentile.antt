@@ -1,5 +1,5 @@
 -- Cumulative weights, percentiles and means of distributions.
-use Rattle.std.specs.Prelude.{ℕ, zero, suc, ◌+◌, ◌*◌, Bool, cond, List, [], ◌∷◌, length, sum, take, nat_le}
+use Rattle.std.specs.Prelude.{ℕ, zero, suc, ◌+◌, ◌-◌, ◌*◌, ◌^◌, Bool, cond, List, [], ◌∷◌, length, sum, take, nat_le}
 
 -- the weight of the outcomes up to x
 abbrev pub cumulative : List ℕ → ℕ → ℕ
@@ -13,6 +13,17 @@ least (suc n) test = cond (test 0) 0 (suc (least n (λ x. test (suc x))))
 -- The percentile at the level a / b: the least outcome up to which the weights are at least a / b of all.
 abbrev pub percentile : List ℕ → ℕ → ℕ → ℕ
 percentile e a b = least (length e) (λ x. nat_le (a * sum e) (cumulative e x * b))
+
+-- the percentile at so many millionths
+abbrev pub percentile_at : List ℕ → ℕ → ℕ
+percentile_at e level = percentile e level 1000000
+
+-- the percentiles at a level that is 2^-30 lower, and 2^-30 higher
+abbrev pub percentile_below : List ℕ → ℕ → ℕ
+percentile_below e level = percentile e (level * 2 ^ 30 - 1000000) (1000000 * 2 ^ 30)
+
+abbrev pub percentile_above : List ℕ → ℕ → ℕ
+percentile_above e level = percentile e (level * 2 ^ 30 + 1000000) (1000000 * 2 ^ 30)
 
 -- The sum of x * weight of x, which is the mean times the sum of the weights: each later outcome counts once more.
 abbrev pub moment : List ℕ → ℕ

@@ -81,5 +81,9 @@ fixed_at t slot = option_of_code (slice_index t.fixed slot)
 abbrev pub is_watched : TableParts → ℕ → Bool
 is_watched t ward = list_any (λ watched. watched == ward) t.watch
 
+-- the beds of a ward that are always taken
+abbrev pub allow_at : TableParts → ℕ → ℕ
+allow_at t ward = slice_index t.allow (ward - 1)
+
 abbrev pub name_at : List (List ℕ) → ℕ → List ℕ
 name_at names number = get_or names (number - 1) []

@@ -1,9 +1,13 @@
 //! The limits of tables, and the tests of them.
-ghost use Rattle.std.specs.Prelude.{◌≡◌, ◌↔◌, ℕ, ◌<◌, ◌≤◌, length, slice_index, IsTrue};
-ghost use Rattle.mss_model.specs.Limits.{Between, AreBetween, AreNumbers, AreApart, IsName, AreNamed, AreNamesApart, AreNames, AreSlots, AreSpecialties, AreTargets, AreNeeds, AreSettings, IsTables};
+ghost use Rattle.std.specs.Prelude.{◌≡◌, ◌↔◌, ◌==◌, ℕ, ◌+◌, ◌<◌, ◌≤◌, length, slice_index, false, IsTrue};
+ghost use Rattle.std.specs.List.{list_any};
+ghost use Rattle.mss_model.specs.TableWords.{ward_count, is_watched};
+ghost use Rattle.mss_model.specs.Limits.{AreInParts, Between, AreBetween, AreNumbers, AreDistinct, IsName, AreNamed, AreNamesDistinct, AreNames, AreSlots, AreSpecialties, AreTargets, AreNeeds, AreSettings, AreAllowances, IsTables};
 
-use crate::growing::Names;
+use crate::block_list::Blocks;
+use crate::growing::{MOST_MEMBERS, Names};
 use crate::name_rule::is_name;
+use crate::one_block::is_parts;
 use crate::parts::TableParts;
 
 /// The most days of a cycle.
@@ -36,6 +40,9 @@ pub const MOST_LEVEL: u32 = 999_999;
 /// The most levels of a report, and the most watched wards.
 pub const MOST_LISTED: u32 = 8;
 
+/// The most beds of a ward that are always taken.
+pub const MOST_ALLOWANCE: u32 = 1_000;
+
 /// The most turns of the search.
 pub const MOST_BUDGET: u32 = 20_000;
 
@@ -59,8 +66,8 @@ fn are_numbers(count: usize, low: u32, high: u32, numbers: &[u32]) -> bool
     numbers.len() == count && are_between(low, high, numbers)
 }
 
-fn are_apart(numbers: &[u32]) -> bool
-    ensures { IsTrue result ↔ AreApart numbers.now }
+fn are_distinct(numbers: &[u32]) -> bool
+    ensures { IsTrue result ↔ AreDistinct numbers.now }
 {
     for j in 0..numbers.len() {
         for i in 0..j {
@@ -89,8 +96,8 @@ fn are_named(names: &Names) -> bool
     true
 }
 
-fn are_names_apart(names: &Names) -> bool
-    ensures { IsTrue result ↔ AreNamesApart names.now }
+fn are_names_distinct(names: &Names) -> bool
+    ensures { IsTrue result ↔ AreNamesDistinct names.now }
 {
     for j in 0..names.len() {
         for i in 0..j {
@@ -105,7 +112,7 @@ fn are_names_apart(names: &Names) -> bool
 fn are_names(low: u32, high: u32, names: &Names) -> bool
     ensures { IsTrue result ↔ AreNames low high names.now }
 {
-    is_between(low, high, names.len()) && are_named(names) && are_names_apart(names)
+    is_between(low, high, names.len()) && are_named(names) && are_names_distinct(names)
 }
 
 fn are_ordered(low: &[u32], high: &[u32]) -> bool
@@ -144,6 +151,20 @@ fn are_specialties(parts: &TableParts) -> bool
         && are_numbers(specialties, 1, parts.wards.len(), parts.ward_of.as_slice())
         && are_numbers(specialties, 0, MOST_DAILY, parts.daily.as_slice())
         && parts.blocks.len() == parts.specialties.len()
+        && is_parts(parts.parts)
+        && are_in_parts(parts.parts, &parts.blocks)
+}
+
+/// Whether the chances of each block are in so many parts.
+fn are_in_parts(parts: u32, blocks: &Blocks) -> bool
+    ensures { IsTrue result ↔ AreInParts parts blocks.now }
+{
+    for place in 0..blocks.len() {
+        if blocks.get(place).parts() != parts {
+            return false;
+        }
+    }
+    true
 }
 
 fn are_targets(parts: &TableParts) -> bool
@@ -187,7 +208,7 @@ fn are_settings(parts: &TableParts) -> bool
         && are_between(1, MOST_LEVEL, levels)
         && is_listed(watch.len())
         && are_between(1, parts.wards.len(), watch)
-        && are_apart(watch)
+        && are_distinct(watch)
         && is_between(1, MOST_BUDGET, parts.budget)
 }
 
@@ -195,6 +216,46 @@ fn is_listed(count: usize) -> bool
     ensures { IsTrue result ↔ Between 1 MOST_LISTED count }
 {
     1 <= count && count <= MOST_LISTED as usize
+}
+
+/// Whether a ward is one of those whose peak counts.
+pub(crate) fn is_watched(watch: &[u32], ward: u32) -> bool
+    ensures { result ≡ list_any (λ watched. watched == ward) watch.now }
+{
+    watch.iter().any(|watched| *watched == ward)
+}
+
+/// Whether the ward at a place, from 0, has no bed that is always taken, or its peak counts.
+fn is_allowed(parts: &TableParts, place: u32) -> bool
+    requires within { place < length parts.now.allow }
+    requires few { place < MOST_MEMBERS }
+    ensures { IsTrue result ↔ (is_watched parts.now (place + 1) ≡ false → slice_index parts.now.allow place ≡ 0) }
+{
+    if is_watched(parts.watch.as_slice(), place + 1) {
+        true
+    } else {
+        parts.allow.as_slice()[place as usize] == 0
+    }
+}
+
+/// Whether no bed is always taken on a ward whose peak doesn't count.
+fn are_allowed(parts: &TableParts) -> bool
+    requires { length parts.now.allow ≡ ward_count parts.now }
+    ensures { IsTrue result ↔ ((place : ℕ) → place < ward_count parts.now → is_watched parts.now (place + 1) ≡ false → slice_index parts.now.allow place ≡ 0) }
+{
+    for place in 0..parts.wards.len() {
+        if !is_allowed(parts, place) {
+            return false;
+        }
+    }
+    true
+}
+
+fn are_allowances(parts: &TableParts) -> bool
+    ensures { IsTrue result ↔ AreAllowances parts.now }
+{
+    let wards = parts.wards.len() as usize;
+    are_numbers(wards, 0, MOST_ALLOWANCE, parts.allow.as_slice()) && are_allowed(parts)
 }
 
 /// Whether all limits are met.
@@ -206,4 +267,5 @@ pub fn are_tables(parts: &TableParts) -> bool
         && are_targets(parts)
         && are_needs(parts)
         && are_settings(parts)
+        && are_allowances(parts)
 }

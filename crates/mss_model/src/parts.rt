@@ -7,6 +7,8 @@ use crate::growing::{Names, Numbers};
 #[derive(Debug, Drop)]
 pub struct TableParts {
     pub days: u8,
+    /// The parts of each chance.
+    pub parts: u32,
     pub rooms: Names,
     /// One for each slot.
     pub minutes: Numbers,
@@ -39,6 +41,8 @@ pub struct TableParts {
     pub levels: Numbers,
     /// The numbers of the wards whose peak counts.
     pub watch: Numbers,
+    /// The beds that are always taken, for each ward; 0 where its peak doesn't count.
+    pub allow: Numbers,
     /// The most turns of the search.
     pub budget: u32,
 }

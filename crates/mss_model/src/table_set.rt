@@ -1,10 +1,10 @@
 //! Tables within the limits.
 ghost use Rattle.std.specs.Prelude.{◌≡◌, ◌↔◌, ℕ, ◌<◌, ◌≤◌, length, not, IsSome, IfSome};
-ghost use Rattle.mss_model.specs.BlockAtAge.{IsBlock};
+ghost use Rattle.mss_model.specs.BlockAtAge.{IsParts, IsBlock};
 ghost use Rattle.mss_model.specs.Limits.{Between, AreBetween, IsTables};
-ghost use Rattle.mss_model.specs.TableWords.{room_count, slot_count, specialty_count, ward_count, kind_count, day_of, room_of, minutes_at, block_of, ward_at, daily_at, low_at, high_at, units_at, need_at, is_unsuited, is_barred, fixed_at, is_watched, name_at};
+ghost use Rattle.mss_model.specs.TableWords.{room_count, slot_count, specialty_count, ward_count, kind_count, day_of, room_of, minutes_at, block_of, ward_at, daily_at, low_at, high_at, units_at, need_at, is_unsuited, is_barred, fixed_at, is_watched, allow_at, name_at};
 
-use crate::limits::are_tables;
+use crate::limits::{are_tables, is_watched};
 use crate::one_block::Block;
 use crate::parts::TableParts;
 
@@ -36,6 +36,14 @@ impl Tables {
         ensures limits { Between 1 28 result }
     {
         self.parts.days
+    }
+
+    /// The parts of each chance.
+    pub fn parts(&self) -> u32
+        ensures value { result ≡ (parts_of self.now).parts }
+        ensures limits { IsParts result }
+    {
+        self.parts.parts
     }
 
     pub fn rooms(&self) -> u8
@@ -103,6 +111,7 @@ impl Tables {
         requires { Between 1 (specialty_count (parts_of self.now)) j }
         ensures value { result.now ≡ block_of (parts_of self.now) j }
         ensures good { IsBlock result.now }
+        ensures parts { result.now.parts ≡ (parts_of self.now).parts }
     {
         self.parts.blocks.get(u32::from(j) - 1)
     }
@@ -221,11 +230,16 @@ impl Tables {
         requires { Between 1 (ward_count (parts_of self.now)) ward }
         ensures { result ≡ is_watched (parts_of self.now) ward }
     {
-        self.parts
-            .watch
-            .as_slice()
-            .iter()
-            .any(|watched| *watched == u32::from(ward))
+        is_watched(self.parts.watch.as_slice(), u32::from(ward))
+    }
+
+    /// The beds of a ward that are always taken; 0 where its peak doesn't count.
+    pub fn allow(&self, ward: u8) -> u32
+        requires { Between 1 (ward_count (parts_of self.now)) ward }
+        ensures value { result ≡ allow_at (parts_of self.now) ward }
+        ensures limits { result ≤ 1000 }
+    {
+        self.parts.allow.as_slice()[usize::from(ward) - 1]
     }
 
     /// The most turns of the search.

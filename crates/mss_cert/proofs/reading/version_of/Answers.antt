@@ -1,5 +1,5 @@
 use Rattle.std.proofs.Common.{sym, ◌∙◌, arith}
-use Rattle.mss_cert.proofs.Versions.{version-spelled, no_version}
+use Rattle.mss_cert.specs.VersionsLaws.{version-spelled, no_version}
 use Rattle.mss_cert.proofs.reading.version_of.Goals as goal
 
 pub returns-in-Some : goal.returns-in-Some

@@ -1,5 +1,5 @@
 use Rattle.std.proofs.Common.{◌≡◌, ◌*◌, ◌≤◌, sum, take}
 use Rattle.mss_model.proofs.one_block.is_patients.Given as goal
 
-abbrev pub invariant-loop-part : goal.invariant-loop-part
-invariant-loop-part l = (l.total ≡ sum (take l.part-index l.patients)) × (l.total ≤ 4294967295 * l.part-index)
+abbrev pub invariant-loop-chance : goal.invariant-loop-chance
+invariant-loop-chance l = (l.total ≡ sum (take l.chance-index l.patients)) × (l.total ≤ 4294967295 * l.chance-index)

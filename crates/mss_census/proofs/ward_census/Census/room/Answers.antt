@@ -2,7 +2,7 @@ use Rattle.std.proofs.Common.{◌≡◌, ◌≤◌, ◌*◌, ◌-◌, ◌+◌, l
 use Rattle.std.proofs.Math.Nat.{mul-le-mul}
 use Rattle.mss_model.specs.TableWords.{slot_count}
 use Rattle.mss_census.specs.WardLists.{census_list}
-use Rattle.mss_census.proofs.WholeCensus.{census-long}
+use Rattle.mss_census.specs.WholeCensusLaws.{census-long}
 use Rattle.mss_census.proofs.LongestLists.{list-short}
 use Rattle.mss_census.proofs.ward_census.Census.room.Goals as goal
 

@@ -3,7 +3,7 @@ use Rattle.std.proofs.lemmas.Grind.{common_steps}
 use Rattle.mss_model.specs.NameRule.{is_name_text}
 use Rattle.mss_names.specs.NameNumbers.{NamesView, number_of}
 use Rattle.mss_names.specs.TableView.{bytes_of}
-use Rattle.mss_names.proofs.MoreNames.{adds-new, names-insert_key, names-more}
+use Rattle.mss_names.specs.MoreNamesLaws.{adds-new, names-insert_key, names-more}
 use Rattle.mss_names.proofs.table.NameTable.add.Goals as goal
 use Rattle.mss_names.proofs.table.NameTable.add.Goals.{In-Ok-insert_full}
 

@@ -1,6 +1,6 @@
 use Rattle.std.proofs.Common.{add-one, refl}
 use Rattle.std.specs.Str.{bytes_eq}
-use Rattle.mss_names.proofs.Numbering.{position-map}
+use Rattle.mss_names.specs.NumberingLaws.{position-map}
 use Rattle.mss_names.specs.TableView.{bytes_of}
 use Rattle.mss_names.proofs.table.NameTable.find.Goals as goal
 
