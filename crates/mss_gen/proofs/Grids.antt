@@ -5,7 +5,7 @@ use Rattle.std.proofs.lemmas.Bool.{ne_eqb}
 use Rattle.mss_model.specs.declared.faults.Kind.{Kind}
 use Rattle.mss_rows.specs.FirstRecord.{Pass}
 use Rattle.mss_grid.specs.Grid.{Entry, entry_fault, value_at, value_for}
-use Rattle.mss_grid.proofs.EntryFacts.{entry-passes}
+use Rattle.mss_grid.specs.EntryLaws.{entry-passes}
 use Rattle.mss_gen.specs.Rows.{by_specialty}
 use Rattle.mss_gen.specs.declared.specialty.Specialty.{Specialty}
 use Rattle.mss_gen.proofs.BySpecialty.{Each, rising-by}

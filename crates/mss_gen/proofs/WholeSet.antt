@@ -8,7 +8,7 @@ use Rattle.csv.specs.Reading.{strip_bom}
 use Rattle.csv.specs.Writing.{fields_text}
 use Rattle.mss_rows.specs.Records.{records_in}
 use Rattle.mss_rows.specs.Written.{text_of}
-use Rattle.mss_rows.proofs.WrittenFacts.{records-back}
+use Rattle.mss_rows.specs.WrittenLaws.{records-back}
 use Rattle.mss_tables.specs.Blocks.{blocks_at}
 use Rattle.mss_tables.specs.Equipment.{equipment_at, equipment_header}
 use Rattle.mss_tables.specs.Patients.{patients_at, patients_header}
@@ -17,7 +17,7 @@ use Rattle.mss_tables.specs.Rooms.{rooms_at, rooms_header}
 use Rattle.mss_tables.specs.SpecialtyFile.{specialties_at, specialties_header}
 use Rattle.mss_tables.specs.Stays.{stays_at, stays_header}
 use Rattle.mss_tables.specs.TablesMeaning.{AreWithin, all_of, hospital_at, settings_at, tables_at, tables_fault}
-use Rattle.mss_tables.specs.Watch.{watch_at, watch_fault}
+use Rattle.mss_tables.specs.Watch.{watch_at, watch_fault, watched_at}
 use Rattle.mss_settings.specs.Meaning.{settings_fault, settings_in}
 use Rattle.mss_settings.specs.declared.settings.Settings.{Settings}
 use Rattle.mss_gen.specs.Generated.{files_of, tables_rows}
@@ -68,8 +68,8 @@ back rows short plain = records-back rows plain (read-back-same rows short)
 pub record AreRead (s : Settings) (files specialties rooms wards equipment : List (List ℕ)) : Type 0 where
   pub rooms_read : IsRead (rooms_at s.days (all_of files 1)) (λ m. m.names) rooms
   pub specialties_read : IsRead {X = List (List ℕ) × List (List ℕ)} (specialties_at (all_of files 2)) (λ m. (m.names, m.wards)) (specialties, wards)
-  pub patients_read : HasNoFault (patients_at specialties (all_of files 3))
-  pub stays_read : HasNoFault (stays_at specialties (all_of files 4))
+  pub patients_read : HasNoFault (patients_at s.parts specialties (all_of files 3))
+  pub stays_read : HasNoFault (stays_at s.parts specialties (all_of files 4))
   pub equipment_read : IsRead (equipment_at (all_of files 5)) (λ m. m.names) equipment
   pub needs_read : HasNoFault (needs_at specialties equipment (all_of files 6))
   pub unsuited_read : HasNoFault (unsuited_at specialties rooms (all_of files 7))
@@ -84,7 +84,7 @@ settings-are-read bytes s none is = rw none (ap (λ (t : Settings). Ok t) is)
 -- files whose tables are read are accepted
 passed : (s : Settings) (files specialties rooms wards equipment : List (List ℕ)) → settings_fault (get_or files 0 []) ≡ None → settings_in (get_or files 0 []) ≡ s
     → AreRead s files specialties rooms wards equipment → tables_fault files ≡ None
-unfolding tables_at hospital_at blocks_at restrictions_at watch_at
+unfolding tables_at hospital_at blocks_at restrictions_at watched_at watch_at
 passed s files specialties rooms wards equipment settings read p =
     let specialty_names : p.specialties_read.meaning.names ≡ specialties = ap (λ (m : List (List ℕ) × List (List ℕ)). m.0) p.specialties_read.seen_so in
     let ward_names : p.specialties_read.meaning.wards ≡ wards = ap (λ (m : List (List ℕ) × List (List ℕ)). m.1) p.specialties_read.seen_so in
@@ -118,12 +118,17 @@ pub record AreRecords (files : List (List ℕ)) (shape : Shape) (all : List Spec
   pub fixed_are : records_in (get_or files 8 []) ≡ options_header ∷ []
   pub barred_are : records_in (get_or files 9 []) ≡ barred_header ∷ by_specialty barred_rows 1 all
 
--- the settings have the days of the shape, and watch all its wards
-watched : (size : Size) → ((settings_of size).days ≡ (shape_of size).days) × (watch_fault (names 87 (shape_of size).wards) (settings_of size).watch ≡ None)
+-- the settings have the days of the shape, count chances in millionths, and watch all its wards
+record AreSettled (s : Settings) (shape : Shape) : Type 0 where
+  days : s.days ≡ shape.days
+  parts : s.parts ≡ 1000000
+  watched : watch_fault (names 87 shape.wards) s.watch ≡ None
+
+settled : (size : Size) → AreSettled (settings_of size) (shape_of size)
 unfolding watch_fault digits
-watched size.Small = (refl, refl)
-watched size.Middle = (refl, refl)
-watched size.Large = (refl, refl)
+settled size.Small = record { days = refl; parts = refl; watched = refl }
+settled size.Middle = record { days = refl; parts = refl; watched = refl }
+settled size.Large = record { days = refl; parts = refl; watched = refl }
 
 all-read : (size : Size) (files : List (List ℕ)) (all : List Specialty) (units : ℕ) → AreDrawn (shape_of size) all units → AreRecords files (shape_of size) all units
     → AreRead (settings_of size) files (names 83 (length all)) (names 82 (shape_of size).rooms) (names 87 (shape_of size).wards) kinds
@@ -136,18 +141,18 @@ all-read size files all units drawn are =
     let days = (shape_of size).days in
     let rooms = (shape_of size).rooms in
     let wards = (shape_of size).wards in
-    let same = (watched size).0 in
+    let settings = settled size in
     record {
-      rooms_read = rw (same, are.rooms_are) (rooms-good size);
+      rooms_read = rw (settings.days, are.rooms_are) (rooms-good size);
       specialties_read = rw are.specialties_are (specialties-good days rooms wards all limits.wards some few turns drawn.each);
-      patients_read = rw are.patients_are (patients-good days rooms all few drawn.each);
-      stays_read = rw are.stays_are (stays-good days rooms all few drawn.each);
+      patients_read = rw (settings.parts, are.patients_are) (patients-good days rooms all few drawn.each);
+      stays_read = rw (settings.parts, are.stays_are) (stays-good days rooms all few drawn.each);
       equipment_read = rw are.equipment_are (equipment-good units drawn.units_few);
       needs_read = rw are.needs_are (needs-good days rooms all few drawn.each);
       unsuited_read = rw are.unsuited_are (unsuited-good days rooms all few limits.rooms drawn.each);
       fixed_read = rw are.fixed_are (fixed-good (settings_of size).days (names 82 rooms) (names 83 (length all)));
-      barred_read = rw (same, are.barred_are) (barred-good days rooms all few limits.days drawn.each);
-      watch_good = (watched size).1;
+      barred_read = rw (settings.days, are.barred_are) (barred-good days rooms all few limits.days drawn.each);
+      watch_good = settings.watched;
     }
 
 -- the tables of few and short records

@@ -32,8 +32,8 @@ entry_by row column None fields = do
   at ← two_numbers row column fields
   Ok (at.0 * column.width + at.1, 1)
 entry_by row column (Some value) fields = do
-  at ← three_numbers row column value fields
-  Ok (at.0 * column.width + at.1, at.2)
+  numbers ← three_numbers row column value fields
+  Ok (numbers.first * column.width + numbers.second, numbers.third)
 
 unfoldable pub entry : Grid → List (List ℕ) → Result (ℕ × ℕ) Kind
 entry grid fields = entry_by grid.row grid.column grid.value fields

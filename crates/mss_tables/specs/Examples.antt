@@ -8,6 +8,7 @@ use Rattle.mss_rows.specs.Fields.{digits_after}
 use Rattle.mss_rows.specs.FirstFault.{first_from}
 use Rattle.mss_grid.specs.Grid.{entry, grid_at}
 use Rattle.mss_grid.specs.Record.{three_numbers, two_numbers}
+use Rattle.mss_tables.specs.Allowances.{allow_of}
 use Rattle.mss_tables.specs.Chances.{named_below}
 use Rattle.mss_tables.specs.Growing.{all_named}
 use Rattle.mss_tables.specs.Equipment.{equipment_at, equipment_header}
@@ -83,25 +84,26 @@ unfolding listing_at digits_after is_utf8 chars encode
 named-twice = refl
 
 -- a count that is not named has no chance
-two-counts : patients_at (codes "X" ∷ []) (patients_header ∷ (codes "X" ∷ codes "2" ∷ codes "400000" ∷ []) ∷ (codes "X" ∷ codes "0" ∷ codes "600000" ∷ []) ∷ []) ≡ Ok ((600000 ∷ 0 ∷ 400000 ∷ []) ∷ [])
+two-counts : patients_at 1000000 (codes "X" ∷ []) (patients_header ∷ (codes "X" ∷ codes "2" ∷ codes "400000" ∷ []) ∷ (codes "X" ∷ codes "0" ∷ codes "600000" ∷ []) ∷ []) ≡ Ok ((600000 ∷ 0 ∷ 400000 ∷ []) ∷ [])
 unfolding patients_at grid_at entry three_numbers named_below number_from first_from digits_after is_utf8 chars encode
 two-counts = refl
 
 -- the chances of each specialty sum to the whole
-no-count-of-Y : patients_at specialties (patients_header ∷ (codes "X" ∷ codes "0" ∷ codes "1000000" ∷ []) ∷ []) ≡ Err (record { file = 3; row = 0; item = 2; kind = kind.ChanceSum })
+no-count-of-Y : patients_at 1000000 specialties (patients_header ∷ (codes "X" ∷ codes "0" ∷ codes "1000000" ∷ []) ∷ []) ≡ Err (record { file = 3; row = 0; item = 2; kind = kind.ChanceSum })
 unfolding patients_at grid_at entry three_numbers named_below number_from first_from digits_after is_utf8 chars encode
 no-count-of-Y = refl
 
 -- the ages of a specialty come one by one from 0
-two-ages : stays_at (codes "X" ∷ []) (stays_header ∷ (codes "X" ∷ codes "0" ∷ codes "5" ∷ []) ∷ (codes "X" ∷ codes "1" ∷ codes "1000000" ∷ []) ∷ []) ≡ Ok ((5 ∷ 1000000 ∷ []) ∷ [])
+two-ages : stays_at 1000000 (codes "X" ∷ []) (stays_header ∷ (codes "X" ∷ codes "0" ∷ codes "5" ∷ []) ∷ (codes "X" ∷ codes "1" ∷ codes "1000000" ∷ []) ∷ []) ≡ Ok ((5 ∷ 1000000 ∷ []) ∷ [])
 unfolding stays_at rows_at three_numbers number_from first_from digits_after is_utf8 chars encode
 two-ages = refl
 
-age-left-out : stays_at (codes "X" ∷ []) (stays_header ∷ (codes "X" ∷ codes "1" ∷ codes "5" ∷ []) ∷ []) ≡ Err (record { file = 4; row = 1; item = 0; kind = kind.StayOrder })
+age-left-out : stays_at 1000000 (codes "X" ∷ []) (stays_header ∷ (codes "X" ∷ codes "1" ∷ codes "5" ∷ []) ∷ []) ≡ Err (record { file = 4; row = 1; item = 0; kind = kind.StayOrder })
 unfolding stays_at rows_at three_numbers first_from digits_after is_utf8 chars encode
 age-left-out = refl
 
-no-last-age : stays_at (codes "X" ∷ []) (stays_header ∷ (codes "X" ∷ codes "0" ∷ codes "5" ∷ []) ∷ []) ≡ Err (record { file = 4; row = 0; item = 1; kind = kind.StayEnd })
+-- a discharge is certain where its chance is the whole
+no-last-age : stays_at 1000000000 (codes "X" ∷ []) (stays_header ∷ (codes "X" ∷ codes "0" ∷ codes "1000000" ∷ []) ∷ []) ≡ Err (record { file = 4; row = 0; item = 1; kind = kind.StayEnd })
 unfolding stays_at rows_at three_numbers number_from first_from digits_after is_utf8 chars encode
 no-last-age = refl
 
@@ -133,3 +135,7 @@ second-ward = refl
 no-such-ward : watch_at (codes "Main" ∷ []) (codes "Short" ∷ []) ≡ Err (record { file = 0; row = 0; item = 5; kind = kind.Unknown })
 unfolding watch_at watch_fault
 no-such-ward = refl
+
+-- wards have the allowances beside their numbers, and those that aren't watched have none
+three-wards : allow_of (3 ∷ 1 ∷ []) (5 ∷ 7 ∷ []) 3 ≡ 7 ∷ 0 ∷ 5 ∷ []
+three-wards = refl

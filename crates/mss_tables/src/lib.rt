@@ -4,6 +4,7 @@
 //! defined in `specs/` by look-up among all records.
 #![tactic(auto)]
 
+mod allow;
 mod block_file;
 mod blocks;
 mod cells;
