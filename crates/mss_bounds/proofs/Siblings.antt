@@ -8,7 +8,7 @@ use Rattle.mss_model.specs.declared.parts.TableParts.{TableParts}
 use Rattle.mss_model.specs.Legality.{option_at, given_minutes, could_take, some_below}
 use Rattle.mss_model.specs.Occurrences.{lies_on, offset}
 use Rattle.mss_model.specs.Peak.{largest_below}
-use Rattle.mss_model.specs.TableWords.{slot_count, specialty_count, block_of, day_of, minutes_at, low_at}
+use Rattle.mss_model.specs.TableWords.{slot_count, specialty_count, block_of, day_of, minutes_at, low_at, allow_at}
 use Rattle.std.proofs.Math.Nat.{mul-le-mul}
 use Rattle.mss_model.specs.Limits.{IsTables}
 use Rattle.mss_model.proofs.RangeSums.{sum_below_ext}
@@ -68,8 +68,8 @@ forced-beside t p a b j not_a not_b =
     (ap (λ n. largest_below (slot_count t - n) (λ k. open_minutes t j (n + k))) (as-long p a b))
 
 -- a specialty of the ward is none of other wards
-apart : (ward_of : List ℕ) (w a j : ℕ) → lies_on ward_of w a ≡ false → lies_on ward_of w j ≡ true → (a == j) ≡ false
-apart ward_of w a j off on = ne_eqb a j (λ e. (let no_way : false ≡ true = sym off ∙ ap (lies_on ward_of w) e ∙ on in cc))
+distinct : (ward_of : List ℕ) (w a j : ℕ) → lies_on ward_of w a ≡ false → lies_on ward_of w j ≡ true → (a == j) ≡ false
+distinct ward_of w a j off on = ne_eqb a j (λ e. (let no_way : false ≡ true = sym off ∙ ap (lies_on ward_of w) e ∙ on in cc))
 
 -- the blocks that a specialty must still get on a ward
 abbrev forced_here : TableParts → List ℕ → ℕ → ℕ → List ℕ
@@ -78,7 +78,7 @@ forced_here t prefix w j = if lies_on t.ward_of w j then replicate (forced t pre
 here-beside : (t : TableParts) (p : List ℕ) (w a b j : ℕ) → lies_on t.ward_of w a ≡ false → lies_on t.ward_of w b ≡ false
     → forced_here t (p ++ a ∷ []) w j ≡ forced_here t (p ++ b ∷ []) w j
 here-beside t p w a b j off_a off_b = elim (cases_Bool (lies_on t.ward_of w j)) [
-  | inl on ↦ rw on (ap (λ n. replicate n j) (forced-beside t p a b j (apart t.ward_of w a j off_a on) (apart t.ward_of w b j off_b on)))
+  | inl on ↦ rw on (ap (λ n. replicate n j) (forced-beside t p a b j (distinct t.ward_of w a j off_a on) (distinct t.ward_of w b j off_b on)))
   | inr off ↦ rw off refl
 ]
 
@@ -111,7 +111,7 @@ pub low-beside : (joined : List ℕ → List ℕ → List ℕ) (low_of : List �
     → lies_on t.ward_of place.ward (get_or c (length c - 1) 0) ≡ false
     → low_number (floored_census joined) low_of t (idle_sibling c) place ≡ low_number (floored_census joined) low_of t c place
 low-beside joined low_of t c place some off =
-    ap (λ l. low_of l t.level) (floored-beside joined t (parent_of c) place.ward place.day 0 (get_or c (length c - 1) 0) refl off
+    ap (λ l. allow_at t place.ward + low_of l t.level) (floored-beside joined t (parent_of c) place.ward place.day 0 (get_or c (length c - 1) 0) refl off
     ∙ ap (λ (q : List ℕ). floored_census joined t q place.ward place.day) (last-of c some))
 
 -- ---- the places of low numbers

@@ -3,9 +3,8 @@
 ghost use Rattle.std.specs.Prelude.{◌≡◌, ℕ, ◌+◌, ◌*◌, ◌-◌, ◌^◌, ◌<◌, ◌≤◌, ◌==◌, ◌∷◌, [], ◌++◌, length, slice_index, if◌then◌else◌};
 ghost use Rattle.std.specs.List.{All};
 ghost use Rattle.mss_model.specs.Limits.{Between};
-ghost use Rattle.mss_model.specs.Occurrences.{lies_on};
 ghost use Rattle.mss_model.specs.PartsOf.{parts_of};
-ghost use Rattle.mss_model.specs.TableWords.{slot_count, option_count};
+ghost use Rattle.mss_model.specs.TableWords.{slot_count, option_count, ward_count};
 ghost use Rattle.mss_census.specs.WardLists.{lists_of};
 ghost use Rattle.mss_floor.specs.FloorLists.{steady_table};
 ghost use Rattle.mss_floor.specs.FlooredLists.{plain_list, floored_census};
@@ -21,7 +20,7 @@ use crate::floored::Floored;
 use crate::lists::go_on;
 use crate::prefix_bound::Bound;
 use crate::ward_days::WardDay;
-use mss_census::Census;
+use mss_census::{Census, lies_on};
 use mss_enclose::{Count, Enclosure, Kernel};
 use mss_floor::forced_counts;
 use mss_model::Tables;
@@ -129,7 +128,7 @@ fn child_low<E: Enclosure, K: Kernel>(
     requires long { length child.now ≤ slot_count (parts_of tables.now) }
     requires options { All (λ option. option < option_count (parts_of tables.now)) child.now }
     requires blocks { AreForced (parts_of tables.now) child.now blocks.now }
-    requires ward { 0 < spot.ward }
+    requires ward { Between 1 (ward_count (parts_of tables.now)) spot.ward }
     requires day { Between 1 (parts_of tables.now).days spot.day }
     requires list { E.items list.now ≡ plain_list E.joined (parts_of tables.now) (parent_of child.now) spot.ward spot.day }
     requires idle { idle ≡ low_number (floored_census E.joined) E.low_of (parts_of tables.now) (idle_sibling child.now) (place_of spot) }
@@ -148,12 +147,4 @@ fn child_low<E: Enclosure, K: Kernel>(
     census.resume(tables, spot.ward, spot.day, &child[..slot], list);
     go_on(kernel, tables, census, child, count);
     floored.low(kernel, tables, child, blocks, census.value(), spot, count)
-}
-
-/// Whether the patients of an option lie on a ward.
-fn lies_on(tables: &Tables, ward: u8, option: u8) -> bool
-    requires { option < option_count (parts_of tables.now) }
-    ensures { result ≡ lies_on (parts_of tables.now).ward_of ward option }
-{
-    option != 0 && tables.ward_of(option) == ward
 }

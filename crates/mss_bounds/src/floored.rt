@@ -3,7 +3,7 @@ ghost use Rattle.std.specs.Prelude.{◌≡◌, ◌+◌, ◌-◌, ◌^◌, ◌<�
 ghost use Rattle.std.specs.List.{All};
 ghost use Rattle.mss_model.specs.Limits.{Between};
 ghost use Rattle.mss_model.specs.PartsOf.{parts_of};
-ghost use Rattle.mss_model.specs.TableWords.{slot_count, option_count};
+ghost use Rattle.mss_model.specs.TableWords.{slot_count, option_count, ward_count};
 ghost use Rattle.mss_floor.specs.FloorLists.{steady_table};
 ghost use Rattle.mss_floor.specs.FlooredLists.{plain_list, floored_census};
 ghost use Rattle.mss_floor.specs.ForcedBlocks.{AreForced};
@@ -59,8 +59,8 @@ impl<E: Enclosure> Floored<E> {
         })
     }
 
-    /// The low number of a prefix at a ward and day, where the blocks that it forces and its list without floors are given.
-    /// The list stays as it is, and the pushes of floors are counted.
+    /// The low number of a prefix at a ward and day, the ward's allowance included, where the blocks that it forces and its list
+    /// without floors are given. The list stays as it is, and the pushes of floors are counted.
     pub(crate) fn low<K: Kernel>(
         &mut self,
         kernel: &K,
@@ -75,7 +75,7 @@ impl<E: Enclosure> Floored<E> {
         requires long { length prefix.now ≤ slot_count (parts_of tables.now) }
         requires options { All (λ option. option < option_count (parts_of tables.now)) prefix.now }
         requires blocks { AreForced (parts_of tables.now) prefix.now blocks.now }
-        requires ward { 0 < spot.ward }
+        requires ward { Between 1 (ward_count (parts_of tables.now)) spot.ward }
         requires day { Between 1 (parts_of tables.now).days spot.day }
         requires list { E.items list.now ≡ plain_list E.joined (parts_of tables.now) prefix.now spot.ward spot.day }
         requires count { count.old + slot_count (parts_of tables.now) ≤ 2 ^ 63 }
@@ -96,6 +96,6 @@ impl<E: Enclosure> Floored<E> {
             &mut self.scratch,
             count,
         );
-        self.copy.low(tables.level())
+        tables.allow(spot.ward) + self.copy.low(tables.level())
     }
 }

@@ -1,13 +1,5 @@
-pub mod OrderOfSums
-pub mod KnownLists
-pub mod LaterSlots
-pub mod FloorOrder
-pub mod NeededBlocks
-pub mod ForcedFloors
-pub mod FlooredLow
 pub mod BlockCounts
 pub mod LowestLists
 pub mod FloorMade
 pub mod OneFloor
-pub mod FlooredPrefix
 pub mod OpenDays

@@ -13,7 +13,7 @@ use Rattle.mss_floor.specs.LowestSums.{AreFull, AreSums, day_choice}
 use Rattle.mss_model.specs.declared.parts.TableParts.{TableParts}
 use Rattle.mss_model.specs.TableWords.{block_of}
 use Rattle.mss_model.specs.Occurrences.{offset}
-use Rattle.mss_floor.proofs.FloorOrder.{shortest-some}
+use Rattle.mss_floor.specs.FloorOrderLaws.{shortest-some}
 
 greatest-more : (lists : List (List ℕ)) (b : List ℕ) (x : ℕ) → greatest_cumulative (lists ++ b ∷ []) x ≡ max (greatest_cumulative lists x) (cumulative b x)
 greatest-more [] b x = omega arith

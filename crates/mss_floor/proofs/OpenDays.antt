@@ -8,7 +8,7 @@ use Rattle.mss_model.specs.TableWords.{room_count, slot_count, day_of}
 use Rattle.mss_model.specs.Legality.{could_take, some_below}
 use Rattle.mss_model.proofs.RangeParts.{quotient}
 use Rattle.mss_rules.specs.RuleLaws.{none_below}
-use Rattle.mss_floor.proofs.ForcedFloors.{some-passes}
+use Rattle.mss_floor.specs.ForcedFloorsLaws.{some-passes}
 
 -- each room has a slot on each day
 pub slot-inside : (days rooms day room : ℕ) → day < days → room < rooms → day * rooms + room < days * rooms

@@ -3,3 +3,11 @@ pub mod FloorLists
 pub mod FlooredLists
 pub mod LowestSums
 pub mod FloorsRest
+pub mod FlooredPrefixLaws
+pub mod FlooredLowLaws
+pub mod ForcedFloorsLaws
+pub mod LaterSlotsLaws
+pub mod OrderOfSumsLaws
+pub mod FloorOrderLaws
+pub mod KnownListsLaws
+pub mod NeededBlocksLaws

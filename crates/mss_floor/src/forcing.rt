@@ -65,7 +65,7 @@ fn blocks_for(missing: u32, minutes: u32) -> u32
 
 /// How many blocks of specialty j a prefix forces: the least number of blocks, each in the longest of the undecided slots
 /// that j could take, that makes up the low minutes that j misses. It takes no memory.
-#[tactic(auto, using(crate::proofs::NeededBlocks::forced_rules))]
+#[tactic(auto, using(crate::specs::NeededBlocksLaws::forced_rules))]
 pub fn forced(tables: &Tables, prefix: &[u8], j: u8) -> u32
     requires long { length prefix.now ≤ slot_count (parts_of tables.now) }
     requires options { All (λ option. option < option_count (parts_of tables.now)) prefix.now }

@@ -3,7 +3,7 @@ ghost use Rattle.std.specs.Prelude.{◌≡◌, ℕ, ◌+◌, ◌-◌, ◌<◌, �
 ghost use Rattle.std.specs.List.{All};
 ghost use Rattle.mss_model.specs.Census.{census};
 ghost use Rattle.mss_model.specs.Legality.{IsLegal};
-ghost use Rattle.mss_model.specs.Percentile.{percentile};
+ghost use Rattle.mss_model.specs.Percentile.{percentile_at};
 ghost use Rattle.mss_model.specs.Limits.{Between};
 ghost use Rattle.mss_model.specs.Occurrences.{lies_on};
 ghost use Rattle.mss_model.specs.PartsOf.{parts_of};
@@ -46,7 +46,7 @@ impl Floors {
         ensures value { E.items value.new ≡ floored_list E.joined (parts_of tables.now) prefix.now ward day (E.items value.old) }
         ensures low { (rest : List ℕ) (level : ℕ) → IsLegal (parts_of tables.now) (prefix.now ++ rest)
             → E.stands_for (E.items value.old) (census (parts_of tables.now) ward day prefix.now)
-            → E.low_of (E.items value.new) level ≤ percentile (census (parts_of tables.now) ward day (prefix.now ++ rest)) level 1000000 }
+            → E.low_of (E.items value.new) level ≤ percentile_at (census (parts_of tables.now) ward day (prefix.now ++ rest)) level }
         ensures below { (rest list : List ℕ) → IsLegal (parts_of tables.now) (prefix.now ++ rest)
             → LeanStands list (census (parts_of tables.now) ward day prefix.now)
             → LiesBelow (floored_list lean_convolution (parts_of tables.now) prefix.now ward day list) (census (parts_of tables.now) ward day (prefix.now ++ rest)) }

@@ -8,9 +8,9 @@ use Rattle.std.proofs.lemmas.List.Quantifiers.{all_pairs_push}
 use Rattle.mss_model.specs.Occurrences.{lies_on}
 use Rattle.mss_enclose.specs.Unit.{unit}
 use Rattle.mss_enclose.specs.Kept.{joined_all}
-use Rattle.mss_enclose.proofs.ManyPushes.{joined-more}
+use Rattle.mss_enclose.specs.ManyPushesLaws.{joined-more}
 use Rattle.mss_census.specs.WardLists.{WardLists, slot_parts, parts_from, census_list}
-use Rattle.mss_census.proofs.SlotPushes.{parts-append, census-more}
+use Rattle.mss_census.specs.SlotPushesLaws.{parts-append, census-more}
 use Rattle.mss_local.specs.OwnSlots.{parts_at}
 
 -- what is known of a ward's slots among the first slots of a cycle

@@ -2,14 +2,13 @@
 ghost use Rattle.std.specs.Prelude.{◌≡◌, ◌<◌, ◌≤◌, length, take};
 ghost use Rattle.std.specs.List.{All};
 ghost use Rattle.mss_model.specs.PartsOf.{parts_of};
-ghost use Rattle.mss_model.specs.Occurrences.{lies_on};
 ghost use Rattle.mss_model.specs.TableWords.{option_count, slot_count};
 ghost use Rattle.mss_enclose.specs.Kept.{kept_convolution};
 ghost use Rattle.mss_census.specs.WardLists.{census_list, lists_of};
 ghost use Rattle.mss_pctl.specs.CensusPeak.{kept_census};
 ghost use Rattle.mss_local.specs.OwnSlots.{AreOwnSlots};
 
-use mss_census::Census;
+use mss_census::{Census, lies_on};
 use mss_enclose::{Kernel, Masses};
 use mss_model::Tables;
 
@@ -64,12 +63,4 @@ pub(crate) fn set_census<K: Kernel>(
         let slot = slots[place];
         census.push_slot(kernel, tables, slot, options[slot as usize]);
     }
-}
-
-/// Whether the patients of an option lie on a ward.
-pub(crate) fn lies_on(tables: &Tables, ward: u8, option: u8) -> bool
-    requires { option < option_count (parts_of tables.now) }
-    ensures { result ≡ lies_on (parts_of tables.now).ward_of ward option }
-{
-    option != 0 && tables.ward_of(option) == ward
 }

@@ -1,24 +1,24 @@
 -- What the search promises in the end.
-use Rattle.std.proofs.Common.{◌≡◌, ℕ, ◌+◌, ◌*◌, ◌-◌, ◌^◌, ◌<◌, ◌≤◌, false, zero, suc, List, [], ◌∷◌, ◌++◌, length, map, get_or, Option, Some, None, IsTrue, inl, inr, refl, sym, ◌∙◌, ap, arith, subst, length-append}
+use Rattle.std.proofs.Common.{◌≡◌, ℕ, ◌+◌, ◌*◌, ◌<◌, ◌≤◌, false, zero, suc, List, [], ◌∷◌, ◌++◌, length, map, get_or, Option, Some, None, IsTrue, inl, inr, refl, sym, ◌∙◌, ap, arith, subst}
 use Rattle.std.specs.Prelude.{◌↔◌, option_map}
 use Rattle.std.proofs.lemmas.List.{length-map}
 use Rattle.std.proofs.lemmas.List.Elements.{All-nil}
 use Rattle.mss_model.specs.declared.parts.TableParts.{TableParts}
 use Rattle.mss_model.specs.Limits.{IsTables}
 use Rattle.mss_model.specs.TableWords.{slot_count, option_count}
-use Rattle.mss_model.specs.Peak.{peak}
+use Rattle.mss_model.specs.Peak.{peak_at, peak_below, peak_above}
 use Rattle.mss_cert.specs.declared.certificate.Line.{Line}
 use Rattle.mss_cert.specs.declared.certificate.Line.TheVariants.{Branch, Dead, Full, Closed, OpenAt}
 use Rattle.mss_cert.specs.declared.certificate.End.TheVariants.{Lower, NoneLegal}
 use Rattle.mss_bounds.specs.declared.prefix_bound.Bound.{Bound}
 use Rattle.mss_floor.specs.FlooredLists.{floored_census}
 use Rattle.mss_bounds.specs.PrefixBound.{bound_of}
-use Rattle.mss_check.specs.Tree.{Task, Fits, children_from, under, Reads, number_of, lesser, least_number, end_of}
+use Rattle.mss_check.specs.Tree.{Task, Fits, under, Reads, number_of, lesser, least_number, end_of}
 use Rattle.mss_check.specs.Coverage.{Sound}
 use Rattle.mss_check.specs.Tasks.{task_of}
 use Rattle.mss_check.specs.Validity.{IsValidFor}
-use Rattle.mss_check.proofs.Agreement.{read_valid}
-use Rattle.mss_check.proofs.Covering.{Bounded, bounded}
+use Rattle.mss_check.specs.AgreementLaws.{read_valid}
+use Rattle.mss_check.specs.CoveringLaws.{Bounded, bounded}
 use Rattle.mss_search.specs.declared.planner.Planned.{Planned}
 use Rattle.mss_search.specs.declared.table.Node.{Node}
 use Rattle.mss_search.specs.declared.queue.Waiting.{Waiting}
@@ -29,14 +29,14 @@ use Rattle.mss_search.specs.Plan.{placed, Precedes, IsFrugal}
 use Rattle.mss_search.specs.Standing.{IsBest, IsBestSoFar, Grown, IsEntry, spot_at}
 use Rattle.mss_search.specs.Searching.{upper_of, IsSearchOf}
 use Rattle.mss_search.specs.Promises.{board_of, IsIncumbent, HasOpen, Reaches, IsTight, IsPlanOf}
-use Rattle.mss_search.proofs.Bridge.{in_either}
 use Rattle.mss_search.proofs.Writing.{laid_reads}
 use Rattle.mss_search.proofs.Closing.{reached, closes}
-use Rattle.mss_search.proofs.Ending.{least_stands, lower_reaches}
+use Rattle.mss_search.specs.EndingLaws.{least_stands, lower_reaches}
+use Rattle.mss_search.specs.PrefixesLaws.{in_either, under_short}
 use Rattle.mss_search.proofs.Standing.{in_map, in_unmap, entry_in, open_entry}
 use Rattle.mss_search.proofs.Tables.{laid_fits}
 use Rattle.mss_search.proofs.Known.{IsKnown, laid_known}
-use Rattle.mss_search.proofs.UpperSides.{KindLaws, upper-above, upper-below, peak-rises, bound-tight}
+use Rattle.mss_search.specs.UpperSidesLaws.{KindLaws, upper-above, upper-below, peak-rises, bound-tight}
 use Rattle.mss_search.proofs.SoundTasks.{RuleLaws, sound}
 
 -- ---- lists of spots and their lines
@@ -56,18 +56,6 @@ laid_placed t (p ∷ ps) (x ∷ ss) h =
 walk-long : (next : ℕ → ℕ) (k n : ℕ) → length (walk next k n) ≡ n
 walk-long next k zero = refl
 walk-long next k (suc n) = omega (arith, walk-long next (next k) n)
-
-children_short : (n : ℕ) (p : List ℕ) (i m : ℕ) → length p < n → (q : List ℕ) → In q (children_from p i m) → length q ≤ n
-children_short n p i zero h q o = absurd o
-children_short n p i (suc m) h q (inl e) = omega (arith, ap length e, length-append p (i ∷ []))
-children_short n p i (suc m) h q (inr o) = children_short n p (suc i) m h q o
-
-pub under_short : (t : Task) (p : List ℕ) (l : Line) → Fits t p l → (q : List ℕ) → In q (under t p l) → length q ≤ t.slots
-under_short t p (Branch turn) f q o = children_short t.slots p 0 t.options f q o
-under_short t p (Dead rule) f q o = absurd o
-under_short t p (Full turn n w d) f q o = absurd o
-under_short t p (Closed turn n w d) f q o = absurd o
-under_short t p (OpenAt n w d) f q o = absurd o
 
 laid_short : (t : Task) (ps : List (List ℕ)) (ss : List Spot) → ((p : List ℕ) → In p ps → length p ≤ t.slots) → Laid t ps ss → (s : Spot) → In s ss → length s.at ≤ t.slots
 laid_short t [] [] k h s i = absurd i
@@ -220,35 +208,35 @@ module _ (rule : TableParts → List ℕ → Option ℕ) (Member : TableParts �
   pub member : (c : List ℕ) → p.best ≡ Some c → Member t c
   member c e = let r = the_best task (upper_of t) p.certificate.tree p.best p.upper c incumbent e in let b = r.2 in full_known c b.turn b.number b.ward b.day b.there
 
-  pub peaks : (c : List ℕ) (n : ℕ) → p.best ≡ Some c → p.upper ≡ Some n → peak t c t.level 1000000 ≤ n
+  pub peaks : (c : List ℕ) (n : ℕ) → p.best ≡ Some c → p.upper ≡ Some n → peak_at t c t.level ≤ n
   peaks c n e k =
       let r = the_best task (upper_of t) p.certificate.tree p.best p.upper c incumbent e in
       let same : r.0 ≡ n = (let z : Some r.0 ≡ Some n = sym r.1 ∙ k in cc) in
       let few : length c ≤ slot_count t = (let w = (rules.legal t c (member c e)).whole in omega arith) in
       omega (arith, same, r.2.reached, upper-above t c good few)
 
-  the_sound : Sound (task_of rule (floored_census joined) low_of t) (Member t) (λ m. peak t m t.level 1000000)
+  the_sound : Sound (task_of rule (floored_census joined) low_of t) (Member t) (λ m. peak_at t m t.level)
   the_sound = sound rule Member joined S low_of rules laws t good
 
-  pub lower : (n : ℕ) → p.certificate.end ≡ Lower n → (c : List ℕ) → Member t c → n ≤ peak t c t.level 1000000
+  pub lower : (n : ℕ) → p.certificate.end ≡ Lower n → (c : List ℕ) → Member t c → n ≤ peak_at t c t.level
   lower n e c w =
-      let b : Bounded p.certificate.tree (peak t c t.level 1000000) = bounded task (Member t) (λ m. peak t m t.level 1000000) the_sound ([] ∷ []) p.certificate.tree c reads (inl (c, refl)) w in
+      let b : Bounded p.certificate.tree (peak_at t c t.level) = bounded task (Member t) (λ m. peak_at t m t.level) the_sound ([] ∷ []) p.certificate.tree c reads (inl (c, refl)) w in
       let is : Lower n ≡ Lower b.number = sym e ∙ (f.last ∙ ap end_of b.least) in
       let same : n ≡ b.number = cc in omega (arith, b.at_most)
 
   pub none : p.certificate.end ≡ NoneLegal → (c : List ℕ) → Member t c → ⊥
   none e c w =
-      let b : Bounded p.certificate.tree (peak t c t.level 1000000) = bounded task (Member t) (λ m. peak t m t.level 1000000) the_sound ([] ∷ []) p.certificate.tree c reads (inl (c, refl)) w in
+      let b : Bounded p.certificate.tree (peak_at t c t.level) = bounded task (Member t) (λ m. peak_at t m t.level) the_sound ([] ∷ []) p.certificate.tree c reads (inl (c, refl)) w in
       let is : NoneLegal ≡ Lower b.number = sym e ∙ (f.last ∙ ap end_of b.least) in cc
 
   right_zero : (q : List ℕ) (l : Line) → on (map (spot_at ns s.prefixes) (order_of ns (length ns))) q l → IsRightlyTaken (Held (upper_of t) (on (map (spot_at ns s.prefixes) (order_of ns (length ns))))) 0 l
   right_zero q l h = rightly_zero (Held (upper_of t) (on spots)) (bound_of (floored_census joined) low_of t q).number l (grown.frugal.rightly q l h)
 
-  pub closing : p.spent ≡ false → (n : ℕ) → p.upper ≡ Some n → (c : List ℕ) → Member t c → n ≤ peak t c (t.level * 2 ^ 30 + 1000000) (1000000 * 2 ^ 30)
+  pub closing : p.spent ≡ false → (n : ℕ) → p.upper ≡ Some n → (c : List ℕ) → Member t c → n ≤ peak_above t c t.level
   closing e n k c w =
       let r = the_upper task (upper_of t) p.certificate.tree p.best p.upper n incumbent k in
-      closes task (Member t) (λ m. peak t m t.level 1000000) (λ m. peak t m (t.level * 2 ^ 30 + 1000000) (1000000 * 2 ^ 30)) (upper_of t) n the_sound spots c
-      (reached task (Member t) (λ m. peak t m t.level 1000000) the_sound ([] ∷ []) spots c grown.laid (inl (c, refl)) w) w
+      closes task (Member t) (λ m. peak_at t m t.level) (λ m. peak_above t m t.level) (upper_of t) n the_sound spots c
+      (reached task (Member t) (λ m. peak_at t m t.level) the_sound ([] ∷ []) spots c grown.laid (inl (c, refl)) w) w
       (closed_off e) right_zero
       (λ q s1 m v d h. r.2.least q s1 m v d (on_board q (Full s1 m v d) h))
       (λ q z. upper-below t q good (let y = (rules.legal t q z).whole in let x : length q ≤ slot_count t = omega arith in x))
@@ -274,7 +262,7 @@ module _ (rule : TableParts → List ℕ → Option ℕ) (Member : TableParts �
         enough = elim side [ inl h ↦ inl h | inr h ↦ inr (h.0, h.1, h.2, (let Q : Line → Type 0 = λ z. In z p.certificate.tree in subst Q h.3 (in_tree x.at x.line at_spot.1))) ];
       }
 
-  pub tight : IsTight (task_of rule (floored_census joined) low_of t) p.certificate.tree (λ q. peak t q (t.level * 2 ^ 30 - 1000000) (1000000 * 2 ^ 30))
+  pub tight : IsTight (task_of rule (floored_census joined) low_of t) p.certificate.tree (λ q. peak_below t q t.level)
   tight q l n h e =
       let i = on_spots q l h in
       let few : length q ≤ slot_count t = laid_short task ([] ∷ []) spots (λ z o. elim o [ inl y ↦ omega (arith, ap length y) | inr y ↦ absurd y ]) grown.laid (record { at = q; line = l }) i in

@@ -1,6 +1,6 @@
 //! The search.
 ghost use Rattle.std.specs.Prelude.{◌≡◌, ◌↔◌, ℕ, ◌+◌, ◌*◌, ◌-◌, ◌^◌, ◌<◌, ◌≤◌, true, false, IsTrue, List, [], ◌∷◌, length, vec_len, IfOk, Option, Some, None, option_map};
-ghost use Rattle.mss_model.specs.Peak.{peak};
+ghost use Rattle.mss_model.specs.Peak.{peak_at, peak_below, peak_above};
 ghost use Rattle.mss_model.specs.PartsOf.{parts_of};
 ghost use Rattle.mss_model.specs.TableWords.{option_count};
 ghost use Rattle.mss_floor.specs.FlooredLists.{floored_census};
@@ -55,14 +55,14 @@ pub fn plan<E: Enclosure, K: Kernel, R: Rules>(
     ensures spent { IfOk result (λ p. IsTrue p.spent ↔ HasOpen (task_of R.rule (floored_census E.joined) E.low_of (parts_of tables.now)) p.certificate.tree) }
     ensures few { IfOk result (λ p. length p.certificate.tree ≤ 1 + option_count (parts_of tables.now) * p.turns) }
     ensures member { IfOk result (λ p. (cycle : List ℕ) → p.best ≡ Some cycle → R.Member (parts_of tables.now) cycle) }
-    ensures peaks { IfOk result (λ p. (cycle : List ℕ) (n : ℕ) → p.best ≡ Some cycle → p.upper ≡ Some n → peak (parts_of tables.now) cycle (parts_of tables.now).level 1000000 ≤ n) }
-    ensures lower { IfOk result (λ p. (n : ℕ) → p.certificate.end ≡ Lower n → (cycle : List ℕ) → R.Member (parts_of tables.now) cycle → n ≤ peak (parts_of tables.now) cycle (parts_of tables.now).level 1000000) }
+    ensures peaks { IfOk result (λ p. (cycle : List ℕ) (n : ℕ) → p.best ≡ Some cycle → p.upper ≡ Some n → peak_at (parts_of tables.now) cycle (parts_of tables.now).level ≤ n) }
+    ensures lower { IfOk result (λ p. (n : ℕ) → p.certificate.end ≡ Lower n → (cycle : List ℕ) → R.Member (parts_of tables.now) cycle → n ≤ peak_at (parts_of tables.now) cycle (parts_of tables.now).level) }
     ensures none { IfOk result (λ p. p.certificate.end ≡ NoneLegal → (cycle : List ℕ) → R.Member (parts_of tables.now) cycle → ⊥) }
     ensures closes { IfOk result (λ p. p.spent ≡ false → (n : ℕ) → p.upper ≡ Some n → (cycle : List ℕ) → R.Member (parts_of tables.now) cycle
-        → n ≤ peak (parts_of tables.now) cycle ((parts_of tables.now).level * 2 ^ 30 + 1000000) (1000000 * 2 ^ 30)) }
+        → n ≤ peak_above (parts_of tables.now) cycle (parts_of tables.now).level) }
     ensures reaches { IfOk result (λ p. p.spent ≡ false → (n : ℕ) → p.upper ≡ Some n → Reaches p.certificate n) }
     ensures tight { IfOk result (λ p. IsTight (task_of R.rule (floored_census E.joined) E.low_of (parts_of tables.now)) p.certificate.tree
-        (λ prefix. peak (parts_of tables.now) prefix ((parts_of tables.now).level * 2 ^ 30 - 1000000) (1000000 * 2 ^ 30))) }
+        (λ prefix. peak_below (parts_of tables.now) prefix (parts_of tables.now).level)) }
 {
     let search = searched::<E, K, R>(alloc, tables, kernel, rules)?;
     finish(alloc, tables, search)

@@ -1,9 +1,9 @@
 -- How long a line of three words and their numbers is.
 use Rattle.std.proofs.Common.{ℕ, ◌+◌, ◌≤◌, List, [], ◌∷◌, ◌++◌, length, arith, decimal, length-append}
 use Rattle.mss_lines.specs.Fields.{AreShort}
-use Rattle.mss_lines.proofs.FieldSizes.{nine_digits}
+use Rattle.mss_lines.specs.FieldSizesLaws.{nine_digits}
 use Rattle.mss_weights.specs.Labelled.{labelled, three_labelled}
-use Rattle.mss_weights.proofs.LabelledNumbers.{two_labelled}
+use Rattle.mss_weights.specs.LabelledNumbersLaws.{two_labelled}
 
 pub three-long : (first second third : List ℕ) (a b c : ℕ) → AreShort (a ∷ b ∷ c ∷ [])
     → length (three_labelled first a second b third c) ≤ length first + length second + length third + 32

@@ -1,8 +1,8 @@
 -- What no line of three words with their numbers is.
-use Rattle.std.proofs.Common.{◌≡◌, ◌≢◌, ℕ, ◌<◌, List, [], ◌∷◌, ◌++◌, sym, ◌∙◌, ap, subst, length, arith}
+use Rattle.std.proofs.Common.{◌≡◌, ◌≢◌, ℕ, ◌<◌, List, [], ◌∷◌, ap, length, arith}
 use Rattle.mss_lines.specs.Fields.{AreShort}
 use Rattle.mss_weights.specs.Labelled.{labelled, three_labelled, IsLabelled, IsWithoutLabelled}
-use Rattle.mss_weights.proofs.LabelledNumbers.{two_labelled, first_of, second_of, third_of, same_labelled, behind}
+use Rattle.mss_weights.specs.LabelledNumbersLaws.{two_labelled, first_of, second_of, third_of, same_labelled, behind}
 
 -- no three words are the line
 abbrev pub IsNone : List ℕ → List ℕ → List ℕ → List ℕ → Type 0

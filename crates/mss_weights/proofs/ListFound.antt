@@ -1,8 +1,8 @@
 -- A line of a word and numbers, as it is found.
-use Rattle.std.proofs.Common.{◌≡◌, ◌≢◌, ℕ, List, [], ◌∷◌, ◌++◌, sym, ◌∙◌, ap, subst, append_assoc}
+use Rattle.std.proofs.Common.{◌≡◌, ◌≢◌, ℕ, List, ◌∷◌, ◌++◌, sym, ◌∙◌, ap, subst, append_assoc}
 use Rattle.mss_lines.specs.Fields.{fields, AreShort}
 use Rattle.mss_lines.specs.Lines.{IsOneLine}
-use Rattle.mss_lines.proofs.OneLine.{one_line-append, fields-one_line, no_end_in, same_line}
+use Rattle.mss_lines.specs.OneLineLaws.{one_line-append, fields-one_line, no_end_in, same_line}
 use Rattle.std.proofs.lemmas.List.{append_cancel_left}
 use Rattle.mss_weights.specs.WeightsFaults.{IsList, IsWithoutList}
 

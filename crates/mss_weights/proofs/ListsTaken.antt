@@ -1,15 +1,14 @@
 -- Lists that were read or written so far.
-use Rattle.std.proofs.Common.{◌≡◌, ℕ, suc, ◌+◌, ◌*◌, ◌<◌, ◌≤◌, List, [], ◌∷◌, ◌++◌, length, get_or, refl, sym, ◌∙◌, ap, subst, arith, append_assoc}
+use Rattle.std.proofs.Common.{◌≡◌, ℕ, ◌+◌, ◌<◌, List, [], ◌∷◌, ◌++◌, length, get_or, refl, sym, ◌∙◌, ap, subst, arith, append_assoc}
 use Rattle.std.specs.List.{AllByRecursion}
 use Rattle.std.proofs.lemmas.List.{append-nil}
 use Rattle.mss_lines.specs.Fields.{fields, AreShort}
-use Rattle.mss_weights.specs.declared.faults.WeightsKind.TheVariants as kind
 use Rattle.mss_weights.specs.declared.faults.WeightsRefusal.{WeightsRefusal}
 use Rattle.mss_weights.specs.declared.faults.WeightsRefusal.TheVariants as refused
 use Rattle.mss_weights.specs.ListLines.{IsListsFault, RefusesList, RefusesLists}
 use Rattle.mss_weights.specs.WeightsFaults.{IsList, HasBadList, GoesOn}
 use Rattle.mss_weights.specs.WeightsText.{lists_text, words}
-use Rattle.mss_weights.proofs.ListTexts.{lists-onto}
+use Rattle.mss_weights.specs.ListTextsLaws.{lists-onto}
 
 -- one list more
 pub list-more : (words lists : List (List ℕ)) (word numbers rest left : List ℕ) → length lists < length words → word ≡ get_or words (length lists) []

@@ -4,7 +4,7 @@ use Rattle.std.specs.Prelude.{if◌then◌else◌}
 use Rattle.std.specs.List.{All}
 use Rattle.std.proofs.lemmas.List.Elements.{All-head, All-tail}
 use Rattle.mss_model.specs.declared.parts.TableParts.{TableParts}
-use Rattle.mss_model.specs.Distribution.{joint_all}
+use Rattle.mss_model.specs.Distribution.{convolution_all}
 use Rattle.mss_model.specs.Limits.{IsTables}
 use Rattle.mss_model.specs.Sums.{sum_below}
 use Rattle.mss_model.specs.TableWords.{block_of, day_of, specialty_count, option_count}
@@ -12,18 +12,18 @@ use Rattle.mss_model.specs.Occurrences.{lies_on, offset}
 use Rattle.mss_model.specs.BlockAtAge.{block_at_age}
 use Rattle.mss_model.specs.Census.{census}
 use Rattle.mss_thin.specs.BlockLists.{kept_at_age}
-use Rattle.mss_model.proofs.JointSums.{AllPositive, positive-all}
+use Rattle.mss_model.proofs.ConvolutionSums.{AllPositive, positive-all}
 use Rattle.mss_model.proofs.ListsAsFunctions.{sum_below-first}
 use Rattle.mss_model.proofs.RangeSums.{sum_below_ext}
 use Rattle.mss_weights.specs.Steady.{steady_sum}
-use Rattle.mss_thin.proofs.BlockAges.{present-ages}
-use Rattle.mss_thin.proofs.OffsetLists.{offset-stands}
+use Rattle.mss_thin.specs.BlockAgesLaws.{present-ages}
+use Rattle.mss_thin.specs.OffsetListsLaws.{offset-stands}
 use Rattle.mss_census.specs.declared.quantity.Quantity.TheVariants.{Census}
-use Rattle.mss_census.proofs.TableBlocks.{block-good, offset-lt}
-use Rattle.mss_census.proofs.SlotSums.{sums_from, slots-sum, exact-is}
+use Rattle.mss_census.specs.TableBlocksLaws.{block-good, offset-lt}
+use Rattle.mss_census.specs.SlotSumsLaws.{sums_from, slots-sum, exact-is}
 use Rattle.mss_weights.specs.Light.{Weighs}
 use Rattle.mss_weights.specs.Loads.{slot_load, load_from}
-use Rattle.mss_weights.proofs.LightSums.{weighs-none, weighs-joint}
+use Rattle.mss_weights.proofs.LightSums.{weighs-none, weighs-convolution}
 
 -- each block weighs at least the number that `weight` has for its specialty and offset
 abbrev pub AllWeigh : ℕ → ℕ → ℕ → ℕ → TableParts → (ℕ → ℕ → ℕ) → Type 0
@@ -47,7 +47,7 @@ sums-positive t w day slot (option ∷ r) good = case (lies_on t.ward_of w optio
     case false rest = rest
 
 -- the census, slot by slot
-census-slots : (t : TableParts) (w day : ℕ) (c : List ℕ) → IsTables t → 0 < w → census t w day c ≡ joint_all (sums_from Census t w day 0 c)
+census-slots : (t : TableParts) (w day : ℕ) (c : List ℕ) → IsTables t → 0 < w → census t w day c ≡ convolution_all (sums_from Census t w day 0 c)
 census-slots t w day c good some = exact-is Census t w day c ∙ slots-sum Census t w day 0 c good some
 
 pub census-positive : (t : TableParts) (w day : ℕ) (c : List ℕ) → IsTables t → 0 < w → 0 < sum (census t w day c)
@@ -57,24 +57,24 @@ none-more : (b d p q : ℕ) (e : List ℕ) (a : ℕ) → Weighs b d p q e a → 
 none-more b d p q e a h = subst (Weighs b d p q e) (let z : a ≡ 0 + a = omega arith in z) h
 
 sums-weigh : (b d p q : ℕ) (t : TableParts) (weight : ℕ → ℕ → ℕ) (w day slot : ℕ) (r : List ℕ) → IsTables t → AllWeigh b d p q t weight
-    → All (λ option. option < option_count t) r → Weighs b d p q (joint_all (sums_from Census t w day slot r)) (load_from weight t w day slot r)
+    → All (λ option. option < option_count t) r → Weighs b d p q (convolution_all (sums_from Census t w day slot r)) (load_from weight t w day slot r)
 sums-weigh b d p q t weight w day slot [] good all known = weighs-none b d p q
 sums-weigh b d p q t weight w day slot (zero ∷ r) good all known =
-    none-more b d p q (joint_all (sums_from Census t w day (slot + 1) r)) (load_from weight t w day (slot + 1) r)
+    none-more b d p q (convolution_all (sums_from Census t w day (slot + 1) r)) (load_from weight t w day (slot + 1) r)
     (sums-weigh b d p q t weight w day (slot + 1) r good all (All-tail (λ option. option < option_count t) zero r known))
 sums-weigh b d p q t weight w day slot (suc j ∷ r) good all known =
     case (lies_on t.ward_of w (suc j)) (sums-weigh b d p q t weight w day (slot + 1) r good all (All-tail (λ option. option < option_count t) (suc j) r known))
   where
-    case : (y : Bool) → Weighs b d p q (joint_all (sums_from Census t w day (slot + 1) r)) (load_from weight t w day (slot + 1) r)
-        → Weighs b d p q (joint_all (cond y (slot_sum t day slot (suc j) ∷ []) [] ++ sums_from Census t w day (slot + 1) r))
+    case : (y : Bool) → Weighs b d p q (convolution_all (sums_from Census t w day (slot + 1) r)) (load_from weight t w day (slot + 1) r)
+        → Weighs b d p q (convolution_all (cond y (slot_sum t day slot (suc j) ∷ []) [] ++ sums_from Census t w day (slot + 1) r))
         ((if y then weight (suc j) (offset t.days day (day_of t slot)) else 0) + load_from weight t w day (slot + 1) r)
     case true rest =
         let known_j : suc j < option_count t = All-head (λ option. option < option_count t) (suc j) r known in
-        weighs-joint b d p q (slot_sum t day slot (suc j)) (joint_all (sums_from Census t w day (slot + 1) r))
+        weighs-convolution b d p q (slot_sum t day slot (suc j)) (convolution_all (sums_from Census t w day (slot + 1) r))
         (weight (suc j) (offset t.days day (day_of t slot))) (load_from weight t w day (slot + 1) r)
         (slot-positive t day slot (suc j) good) (positive-all (sums_from Census t w day (slot + 1) r) (sums-positive t w day (slot + 1) r good))
         (all (suc j) (offset t.days day (day_of t slot)) (omega arith) (omega arith) (offset-lt t.days day (day_of t slot) good.slots.days.0)) rest
-    case false rest = none-more b d p q (joint_all (sums_from Census t w day (slot + 1) r)) (load_from weight t w day (slot + 1) r) rest
+    case false rest = none-more b d p q (convolution_all (sums_from Census t w day (slot + 1) r)) (load_from weight t w day (slot + 1) r) rest
 
 pub census-weighs : (b d p q : ℕ) (t : TableParts) (weight : ℕ → ℕ → ℕ) (w day : ℕ) (c : List ℕ) → IsTables t → 0 < w → AllWeigh b d p q t weight
     → All (λ option. option < option_count t) c → Weighs b d p q (census t w day c) (load_from weight t w day 0 c)

@@ -1,10 +1,10 @@
 -- A certificate of weights as it is written, and how long its text is.
-use Rattle.std.proofs.Common.{◌≡◌, ℕ, suc, ◌+◌, ◌*◌, ◌<◌, ◌≤◌, List, [], ◌∷◌, ◌++◌, length, get_or, take, codes, refl, sym, ◌∙◌, ap, arith, append_assoc, decimal, length-append}
+use Rattle.std.proofs.Common.{◌≡◌, ℕ, ◌+◌, ◌*◌, ◌<◌, ◌≤◌, List, [], ◌∷◌, ◌++◌, length, get_or, take, codes, refl, sym, ◌∙◌, ap, arith, append_assoc, decimal, length-append}
 use Rattle.std.proofs.lemmas.List.{append-nil, take_more}
 use Rattle.mss_lines.specs.Fields.{fields, AreShort}
-use Rattle.mss_lines.proofs.FieldSizes.{fields-long}
+use Rattle.mss_lines.specs.FieldSizesLaws.{fields-long}
 use Rattle.mss_weights.proofs.LabelledSizes.{three-long}
-use Rattle.mss_lines.proofs.SpacedNumbers.{fields-more}
+use Rattle.mss_lines.specs.SpacedNumbersLaws.{fields-more}
 use Rattle.mss_weights.specs.declared.weights.Weights.{Weights}
 use Rattle.mss_weights.specs.WeightsText.{IsShort, head_text, lists_of, lists_text, price_count, version_text, weights_text, words}
 use Rattle.mss_weights.proofs.ListsTaken.{one_written}

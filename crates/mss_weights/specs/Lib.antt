@@ -13,3 +13,7 @@ pub mod WeightsFaults
 pub mod ListLines
 pub mod Labelled
 pub mod ShortLists
+pub mod LabelledNumbersLaws
+pub mod ListTextsLaws
+pub mod WeightTextsLaws
+pub mod OneFaultLaws

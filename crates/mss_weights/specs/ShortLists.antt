@@ -1,5 +1,5 @@
 -- Lists of prices that are written with at most nine digits each, and that aren't many.
-use Rattle.std.specs.Prelude.{ℕ, ◌≤◌}
+use Rattle.std.specs.Prelude.{◌≤◌}
 use Rattle.mss_lines.specs.Fields.{AreShort}
 use Rattle.mss_weights.specs.declared.weights.Weights.{Weights}
 use Rattle.mss_weights.specs.WeightsText.{price_count}

@@ -3,7 +3,7 @@ ghost use Rattle.std.specs.Prelude.{◌≡◌, ℕ, ◌<◌, ◌≤◌, ◌^◌,
 ghost use Rattle.mss_lines.specs.Fields.{AreShort};
 ghost use Rattle.mss_model.specs.Legality.{IsLegal};
 ghost use Rattle.mss_model.specs.PartsOf.{parts_of};
-ghost use Rattle.mss_model.specs.Peak.{peak};
+ghost use Rattle.mss_model.specs.Peak.{peak_at};
 ghost use Rattle.mss_model.specs.TableWords.{specialty_count};
 ghost use Rattle.mss_weights.specs.BlockWeights.{weight_table};
 ghost use Rattle.mss_weights.specs.Rows.{AreRows};
@@ -12,11 +12,11 @@ ghost use Rattle.mss_weights.specs.Shown.{is_shown};
 ghost use Rattle.mss_weights.specs.WeightsText.{IsShort, price_count};
 
 use crate::check::{is_worth_more, shows};
-use crate::finder::{ALL_PLACES, Finder};
+use crate::finder::{ALL_PLACES, Finder, most_beds};
 use crate::lists::{at, cell};
 use crate::rows::weight_rows;
 use crate::scales::least_reach;
-use crate::sums::{all_places, spent, worth};
+use crate::sums::{all_places, limits_cost, spent, worth};
 use crate::weights::Weights;
 use mss_enclose::Kernel;
 use mss_model::{NoMemory, Numbers, Tables};
@@ -45,7 +45,7 @@ pub fn find_weights<K: Kernel>(
 ) -> Result<Option<Weights>, NoMemory>
     ensures shown { IfOk result (λ found. IfSome found (λ w. IsTrue (is_shown (parts_of tables.now) w))) }
     ensures lower { IfOk result (λ found. IfSome found (λ w. (cycle : List ℕ) → IsLegal (parts_of tables.now) cycle
-        → w.number ≤ peak (parts_of tables.now) cycle (parts_of tables.now).level 1000000)) }
+        → w.number ≤ peak_at (parts_of tables.now) cycle (parts_of tables.now).level)) }
     ensures short { IfOk result (λ found. IfSome found IsShort) }
     ensures few { IfOk result (λ found. IfSome found (λ w. price_count w ≤ 100000)) }
 {
@@ -53,14 +53,29 @@ pub fn find_weights<K: Kernel>(
         return Ok(None);
     };
     let mut finder = Finder::make(alloc, tables)?;
-    if finder.supply.needs_none() {
-        return Ok(None);
+    let beds = most_beds(tables);
+    if !finder.supply.needs_none() {
+        let power = best_power(alloc, kernel, tables, &mut finder, reach)?;
+        let rows = weight_rows(alloc, kernel, tables, power)?;
+        finder.rounds(tables, &rows, power, reach, LONG_ROUNDS);
+        let weights = weights_of(alloc, tables, &rows, &mut finder, power, reach)?;
+        let found = with_greatest(tables, &rows, weights);
+        if number_of(&found) >= beds {
+            return Ok(found);
+        }
     }
-    let power = best_power(alloc, kernel, tables, &mut finder, reach)?;
-    let rows = weight_rows(alloc, kernel, tables, power)?;
-    finder.rounds(tables, &rows, LONG_ROUNDS);
-    let weights = weights_of(alloc, tables, &rows, &mut finder, power, reach)?;
+    let rows = weight_rows(alloc, kernel, tables, 0)?;
+    finder.price_beds(tables, beds);
+    let weights = weights_of(alloc, tables, &rows, &mut finder, 0, reach)?;
     Ok(with_greatest(tables, &rows, weights))
+}
+
+/// The number of a certificate, or 0.
+fn number_of(found: &Option<Weights>) -> u32 {
+    match found {
+        Some(weights) => weights.number,
+        None => 0,
+    }
 }
 
 /// The power with which a few rounds come to the greatest number.
@@ -76,7 +91,7 @@ fn best_power<K: Kernel>(
     let mut power = FIRST_POWER;
     for _power in 0..POWERS {
         let rows = weight_rows(alloc, kernel, tables, power)?;
-        let value = finder.rounds(tables, &rows, SHORT_ROUNDS);
+        let value = finder.rounds(tables, &rows, power, reach, SHORT_ROUNDS);
         let number = thousandths(value, power, reach);
         if number > most {
             best = power;
@@ -162,7 +177,7 @@ fn with_greatest(tables: &Tables, rows: &[Vec<u32>], mut weights: Weights) -> Op
     requires lists { HasShortLists weights }
     ensures shown { IfSome result (λ w. IsTrue (is_shown (parts_of tables.now) w)) }
     ensures lower { IfSome result (λ w. (cycle : List ℕ) → IsLegal (parts_of tables.now) cycle
-        → w.number ≤ peak (parts_of tables.now) cycle (parts_of tables.now).level 1000000) }
+        → w.number ≤ peak_at (parts_of tables.now) cycle (parts_of tables.now).level) }
     ensures short { IfSome result IsShort }
     ensures few { IfSome result (λ w. price_count w ≤ 100000) }
 {
@@ -186,20 +201,12 @@ fn greatest(tables: &Tables, rows: &[Vec<u32>], weights: &Weights) -> u32
     let mut high = 1 << HALVINGS;
     for _halving in 0..HALVINGS {
         let middle = (low + high) / 2;
-        let load = load_of(weights.power, weights.reach, middle.saturating_sub(1));
-        if is_worth_more(worth, spent, places, load) {
+        let limits = limits_cost(tables, weights, middle.saturating_sub(1));
+        if is_worth_more(worth, spent, places, limits) {
             low = middle;
         } else {
             high = middle;
         }
     }
     low
-}
-
-/// The load of so many patients at the powers of a certificate.
-fn load_of(power: u32, reach: u32, patients: u32) -> u64
-    requires { patients ≤ 16384 }
-    ensures { result < 2 ^ 50 }
-{
-    u64::from(power) * u64::from(patients) + u64::from(reach)
 }

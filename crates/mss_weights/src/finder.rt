@@ -3,7 +3,7 @@ ghost use Rattle.std.specs.Prelude.{◌<◌};
 
 use crate::amounts::Amounts;
 use crate::dealing::{Dealt, deal};
-use crate::lists::{at, cell, fill, largest, put, row, row_mut, total};
+use crate::lists::{add_times, at, cell, fill, largest, put, row, row_mut, total, worth};
 use crate::pricing::{price_blocks, spread, use_blocks, weights};
 use crate::supply::Supply;
 use mss_model::{NoMemory, Tables};
@@ -41,6 +41,8 @@ pub(crate) struct Finder {
     costs: Vec<u64>,
     /// How many blocks there are, in the same order.
     blocks: Vec<u64>,
+    /// What the beds weigh that are always taken, by place.
+    beds: Vec<u64>,
 }
 
 impl Finder {
@@ -57,14 +59,23 @@ impl Finder {
             pulls: vec![in alloc; 0; places]?,
             costs: vec![in alloc; 0; blocks]?,
             blocks: vec![in alloc; 0; blocks]?,
+            beds: vec![in alloc; 0; places]?,
         })
     }
 
     /// Goes so many rounds from equal prices of places, and then takes the mean of their prices, where a later round counts
-    /// more. What the needed blocks cost at them, above what slots and units are worth.
-    pub(crate) fn rounds(&mut self, tables: &Tables, rows: &[Vec<u32>], count: u32) -> u64 {
+    /// more. What the needed blocks and the beds that are always taken cost at them, above what slots and units are worth.
+    pub(crate) fn rounds(
+        &mut self,
+        tables: &Tables,
+        rows: &[Vec<u32>],
+        power: u32,
+        reach: u32,
+        count: u32,
+    ) -> u64 {
         self.begin(tables);
         price_blocks(tables, rows, &self.prices, self.costs.as_mut_slice());
+        self.weigh_beds(tables, rows, power, reach);
         let step = largest(&self.prices.places).saturating_mul(self.mean_spread(tables, rows));
         for round in 0..count {
             self.round(tables, rows, u64::from(round + 1), step.saturating_mul(2));
@@ -72,7 +83,8 @@ impl Finder {
         let whole = u64::from(count).saturating_mul(u64::from(count) + 1) / 2;
         self.prices.put_quotients(&self.sums, whole);
         price_blocks(tables, rows, &self.prices, self.costs.as_mut_slice());
-        self.deal_all(tables)
+        let beds = worth(&self.prices.places, &self.beds);
+        self.deal_all(tables).saturating_add(beds)
     }
 
     /// Equal prices of the days of watched wards, and no others.
@@ -91,6 +103,25 @@ impl Finder {
         self.share_out();
     }
 
+    /// Weighs the beds that are always taken, above those of the watched ward with the fewest. Those of a ward don't count
+    /// where its needed blocks don't come to the reach, since these show nothing above its beds then.
+    fn weigh_beds(&mut self, tables: &Tables, rows: &[Vec<u32>], power: u32, reach: u32) {
+        let days = tables.days();
+        let least = u64::from(reach) * u64::from(days);
+        let fewest = fewest_beds(tables);
+        self.deal_all(tables);
+        use_blocks(tables, rows, &self.blocks, &mut self.uses);
+        for ward in 0..tables.wards() {
+            let beds = if total(row(&self.uses.places, ward, days)) < least {
+                0
+            } else {
+                tables.allow(ward + 1).saturating_sub(fewest)
+            };
+            let load = u64::from(power) * u64::from(beds);
+            fill(row_mut(self.beds.as_mut_slice(), ward, days), load);
+        }
+    }
+
     /// How far the weights of a needed block are from their mean, all offsets together.
     fn mean_spread(&self, tables: &Tables, rows: &[Vec<u32>]) -> u64 {
         let mut all = 0u64;
@@ -106,6 +137,7 @@ impl Finder {
         self.deal_all(tables);
         self.sums.add_times(&self.prices, round);
         use_blocks(tables, rows, &self.blocks, &mut self.uses);
+        add_times(self.uses.places.as_mut_slice(), &self.beds, 1);
         self.pull(round == 1, SHARE_STEP / later(round, 8));
         self.adjust(step / later(round, 32));
         self.share_out();
@@ -173,12 +205,44 @@ impl Finder {
         );
     }
 
+    /// The price 1 for one day of the first ward of which so many beds are always taken, and no other prices.
+    pub(crate) fn price_beds(&mut self, tables: &Tables, beds: u32) {
+        self.prices.clear();
+        for ward in 0..tables.wards() {
+            if tables.allow(ward + 1) == beds {
+                let place = cell(ward, tables.days(), 0);
+                put(self.prices.places.as_mut_slice(), place, 1);
+                return;
+            }
+        }
+    }
+
     /// Brings all prices, and what blocks cost at them, to some nine digits.
     pub(crate) fn shorten(&mut self, tables: &Tables, rows: &[Vec<u32>]) {
         let largest = largest(&self.costs).max(self.prices.largest());
         self.prices.divide(largest / LARGEST_PRICE + 1);
         price_blocks(tables, rows, &self.prices, self.costs.as_mut_slice());
     }
+}
+
+/// The fewest beds of a watched ward that are always taken.
+fn fewest_beds(tables: &Tables) -> u32 {
+    let mut fewest = u32::MAX;
+    for ward in 0..tables.wards() {
+        if tables.watched(ward + 1) {
+            fewest = fewest.min(tables.allow(ward + 1));
+        }
+    }
+    fewest
+}
+
+/// The most beds of a ward that are always taken.
+pub(crate) fn most_beds(tables: &Tables) -> u32 {
+    let mut most = 0;
+    for ward in 0..tables.wards() {
+        most = tables.allow(ward + 1).max(most);
+    }
+    most
 }
 
 /// The number of a round and some more.

@@ -30,9 +30,7 @@ pub child_low-low-requires-clause-tables : goal.child_low-low-requires-clause-ta
 child_low-low-requires-clause-tables g c = c.loop-place.invariant.lists ∙ c.requires.tables
 
 pub child_low-low-requires-clause-ward : goal.child_low-low-requires-clause-ward
-child_low-low-requires-clause-ward g c =
-    let known = spot-known (parts_of c.args.tables.now) c.args.spots.now c.loop-place.place c.requires.spots (omega arith) in
-    omega (arith, known.known.0)
+child_low-low-requires-clause-ward g c = (spot-known (parts_of c.args.tables.now) c.args.spots.now c.loop-place.place c.requires.spots (omega arith)).known
 
 pub child_low-low-requires-clause-day : goal.child_low-low-requires-clause-day
 child_low-low-requires-clause-day g c = (spot-known (parts_of c.args.tables.now) c.args.spots.now c.loop-place.place c.requires.spots (omega arith)).in_cycle

@@ -21,9 +21,7 @@ loop-place-init g c = record {
 }
 
 pub low-low-requires-clause-ward : goal.low-low-requires-clause-ward
-low-low-requires-clause-ward g c =
-    let known = spot-known (parts_of c.args.tables.now) c.args.spots.now c.loop-place.place c.requires.spots (omega arith) in
-    omega (arith, known.known.0)
+low-low-requires-clause-ward g c = (spot-known (parts_of c.args.tables.now) c.args.spots.now c.loop-place.place c.requires.spots (omega arith)).known
 
 pub low-low-requires-clause-day : goal.low-low-requires-clause-day
 low-low-requires-clause-day g c = (spot-known (parts_of c.args.tables.now) c.args.spots.now c.loop-place.place c.requires.spots (omega arith)).in_cycle

@@ -3,7 +3,7 @@ use Rattle.mss_model.specs.Legality.{given_minutes}
 use Rattle.mss_model.specs.PartsOf.{parts_of}
 use Rattle.mss_model.specs.TableWords.{low_at}
 use Rattle.mss_floor.specs.ForcedBlocks.{blocks_for, blocks_from, forced}
-use Rattle.mss_floor.proofs.NeededBlocks.{forced_given}
+use Rattle.mss_floor.specs.NeededBlocksLaws.{forced_given}
 use Rattle.mss_floor.proofs.forcing.forced.Goals as goal
 
 -- each legal cycle has so many further blocks

@@ -1,6 +1,6 @@
 use Rattle.std.proofs.Common.{sym, arith}
 use Rattle.mss_model.specs.PartsOf.{parts_of}
-use Rattle.mss_floor.proofs.ForcedFloors.{nobody-floor}
+use Rattle.mss_floor.specs.ForcedFloorsLaws.{nobody-floor}
 use Rattle.mss_floor.proofs.lowest.adds_none.Goals as goal
 
 pub returns-then-adds_none_from : goal.returns-then-adds_none_from

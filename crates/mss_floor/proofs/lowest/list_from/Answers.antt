@@ -6,7 +6,7 @@ use Rattle.mss_model.specs.PartsOf.{parts_of}
 use Rattle.mss_model.specs.TableWords.{block_of}
 use Rattle.mss_enclose.specs.Words.{mass_lists, masses_list}
 use Rattle.mss_floor.specs.FloorLists.{steady_list}
-use Rattle.mss_floor.proofs.KnownLists.{steady-at}
+use Rattle.mss_floor.specs.KnownListsLaws.{steady-at}
 use Rattle.mss_floor.proofs.lowest.list_from.Goals as goal
 
 pub get-requires : goal.get-requires

@@ -7,7 +7,7 @@ use Rattle.mss_enclose.specs.Kept.{raised}
 use Rattle.mss_floor.specs.FloorLists.{is_open_day, steady_list}
 use Rattle.mss_floor.specs.LowestSums.{AreFull, AreSums, day_choice}
 use Rattle.mss_floor.proofs.BlockCounts.{all-same}
-use Rattle.mss_floor.proofs.ForcedFloors.{full-kept, steady-full}
+use Rattle.mss_floor.specs.ForcedFloorsLaws.{full-kept, steady-full}
 use Rattle.mss_floor.proofs.LowestLists.{choices-more}
 use Rattle.mss_floor.proofs.lowest.lowest_sums.Goals as goal
 

@@ -4,8 +4,8 @@ use Rattle.mss_model.specs.PartsOf.{parts_of}
 use Rattle.mss_model.specs.TableWords.{block_of}
 use Rattle.mss_enclose.specs.Words.{masses_list}
 use Rattle.mss_floor.specs.LowestSums.{AreSums}
-use Rattle.mss_census.proofs.TableBlocks.{block-good}
-use Rattle.mss_floor.proofs.KnownLists.{steady-short}
+use Rattle.mss_census.specs.TableBlocksLaws.{block-good}
+use Rattle.mss_floor.specs.KnownListsLaws.{steady-short}
 use Rattle.mss_floor.proofs.LowestLists.{choice-is}
 use Rattle.mss_floor.proofs.lowest.take_day.Goals as goal
 

@@ -1,6 +1,6 @@
-use Rattle.std.proofs.Common.{◌≡◌, ℕ, ◌+◌, ◌*◌, ◌-◌, ◌^◌, ◌≤◌, false, List, length, Some, IsTrue, Result, Ok, Err, IfOk}
+use Rattle.std.proofs.Common.{◌≡◌, ℕ, ◌+◌, ◌*◌, ◌≤◌, false, List, length, Some, IsTrue, Result, Ok, Err, IfOk}
 use Rattle.std.specs.Prelude.{◌↔◌}
-use Rattle.mss_model.specs.Peak.{peak}
+use Rattle.mss_model.specs.Peak.{peak_at, peak_below, peak_above}
 use Rattle.mss_model.specs.PartsOf.{parts_of}
 use Rattle.mss_model.specs.TableWords.{option_count}
 use Rattle.mss_floor.specs.FlooredLists.{floored_census}
@@ -11,7 +11,7 @@ use Rattle.mss_check.specs.Validity.{IsValidFor}
 use Rattle.mss_search.specs.Plan.{IsFrugal}
 use Rattle.mss_search.specs.Searching.{upper_of}
 use Rattle.mss_search.specs.Promises.{IsPlanOf, IsIncumbent, HasOpen, Reaches, IsTight}
-use Rattle.mss_search.proofs.UpperSides.{KindLaws}
+use Rattle.mss_search.specs.UpperSidesLaws.{KindLaws}
 use Rattle.mss_search.proofs.SoundTasks.{RuleLaws}
 use Rattle.mss_search.proofs.Outcome.{valid, frugal, incumbent, spent_is, few, member, peaks, lower, none, closing, reaching, tight}
 use Rattle.mss_search.proofs.planner.plan.Goals as goal
@@ -79,7 +79,7 @@ returns-clause-peaks g c =
     let t = parts_of c.args.tables.now in let E = g.E.Enclosure in let R = g.R.Rules in let s = c.in_ok-search.search in
     let kind : KindLaws E.joined E.stands_for E.low_of = record { starts = g.met.E.Enclosure.starts; sums = g.met.E.Enclosure.sums; low_at_most = g.met.E.Enclosure.low_at_most; keeps_near = g.met.E.Enclosure.keeps_near; low_at_least = g.met.E.Enclosure.low_at_least; joined_length = g.met.E.Enclosure.joined_length } in
     let rules : RuleLaws R.rule R.Member = record { alive = g.met.R.Rules.alive; full = g.met.R.Rules.full; legal = g.met.R.Rules.legal } in
-    from_ok (IsPlanOf t s.nodes.items s.queue s.best s.turns) (λ p. (cycle : List ℕ) (n : ℕ) → p.best ≡ Some cycle → p.upper ≡ Some n → peak t cycle t.level 1000000 ≤ n) c.finish.result
+    from_ok (IsPlanOf t s.nodes.items s.queue s.best s.turns) (λ p. (cycle : List ℕ) (n : ℕ) → p.best ≡ Some cycle → p.upper ≡ Some n → peak_at t cycle t.level ≤ n) c.finish.result
     (λ p f. peaks R.rule R.Member E.joined E.stands_for E.low_of rules kind t c.args.tables.now.good s.nodes.items s.queue s.best s.turns c.in_ok-search.ensures.search p f) c.finish.ensures
 
 pub returns-clause-lower : goal.returns-clause-lower
@@ -87,7 +87,7 @@ returns-clause-lower g c =
     let t = parts_of c.args.tables.now in let E = g.E.Enclosure in let R = g.R.Rules in let s = c.in_ok-search.search in
     let kind : KindLaws E.joined E.stands_for E.low_of = record { starts = g.met.E.Enclosure.starts; sums = g.met.E.Enclosure.sums; low_at_most = g.met.E.Enclosure.low_at_most; keeps_near = g.met.E.Enclosure.keeps_near; low_at_least = g.met.E.Enclosure.low_at_least; joined_length = g.met.E.Enclosure.joined_length } in
     let rules : RuleLaws R.rule R.Member = record { alive = g.met.R.Rules.alive; full = g.met.R.Rules.full; legal = g.met.R.Rules.legal } in
-    from_ok (IsPlanOf t s.nodes.items s.queue s.best s.turns) (λ p. (n : ℕ) → p.certificate.end ≡ Lower n → (cycle : List ℕ) → R.Member t cycle → n ≤ peak t cycle t.level 1000000) c.finish.result
+    from_ok (IsPlanOf t s.nodes.items s.queue s.best s.turns) (λ p. (n : ℕ) → p.certificate.end ≡ Lower n → (cycle : List ℕ) → R.Member t cycle → n ≤ peak_at t cycle t.level) c.finish.result
     (λ p f. lower R.rule R.Member E.joined E.stands_for E.low_of rules kind t c.args.tables.now.good s.nodes.items s.queue s.best s.turns c.in_ok-search.ensures.search p f) c.finish.ensures
 
 pub returns-clause-none : goal.returns-clause-none
@@ -103,7 +103,7 @@ returns-clause-closes g c =
     let t = parts_of c.args.tables.now in let E = g.E.Enclosure in let R = g.R.Rules in let s = c.in_ok-search.search in
     let kind : KindLaws E.joined E.stands_for E.low_of = record { starts = g.met.E.Enclosure.starts; sums = g.met.E.Enclosure.sums; low_at_most = g.met.E.Enclosure.low_at_most; keeps_near = g.met.E.Enclosure.keeps_near; low_at_least = g.met.E.Enclosure.low_at_least; joined_length = g.met.E.Enclosure.joined_length } in
     let rules : RuleLaws R.rule R.Member = record { alive = g.met.R.Rules.alive; full = g.met.R.Rules.full; legal = g.met.R.Rules.legal } in
-    from_ok (IsPlanOf t s.nodes.items s.queue s.best s.turns) (λ p. p.spent ≡ false → (n : ℕ) → p.upper ≡ Some n → (cycle : List ℕ) → R.Member t cycle → n ≤ peak t cycle (t.level * 2 ^ 30 + 1000000) (1000000 * 2 ^ 30)) c.finish.result
+    from_ok (IsPlanOf t s.nodes.items s.queue s.best s.turns) (λ p. p.spent ≡ false → (n : ℕ) → p.upper ≡ Some n → (cycle : List ℕ) → R.Member t cycle → n ≤ peak_above t cycle t.level) c.finish.result
     (λ p f. closing R.rule R.Member E.joined E.stands_for E.low_of rules kind t c.args.tables.now.good s.nodes.items s.queue s.best s.turns c.in_ok-search.ensures.search p f) c.finish.ensures
 
 pub returns-clause-reaches : goal.returns-clause-reaches
@@ -119,5 +119,5 @@ returns-clause-tight g c =
     let t = parts_of c.args.tables.now in let E = g.E.Enclosure in let R = g.R.Rules in let s = c.in_ok-search.search in
     let kind : KindLaws E.joined E.stands_for E.low_of = record { starts = g.met.E.Enclosure.starts; sums = g.met.E.Enclosure.sums; low_at_most = g.met.E.Enclosure.low_at_most; keeps_near = g.met.E.Enclosure.keeps_near; low_at_least = g.met.E.Enclosure.low_at_least; joined_length = g.met.E.Enclosure.joined_length } in
     let rules : RuleLaws R.rule R.Member = record { alive = g.met.R.Rules.alive; full = g.met.R.Rules.full; legal = g.met.R.Rules.legal } in
-    from_ok (IsPlanOf t s.nodes.items s.queue s.best s.turns) (λ p. IsTight (task_of R.rule (floored_census E.joined) E.low_of t) p.certificate.tree (λ q. peak t q (t.level * 2 ^ 30 - 1000000) (1000000 * 2 ^ 30))) c.finish.result
+    from_ok (IsPlanOf t s.nodes.items s.queue s.best s.turns) (λ p. IsTight (task_of R.rule (floored_census E.joined) E.low_of t) p.certificate.tree (λ q. peak_below t q t.level)) c.finish.result
     (λ p f. tight R.rule R.Member E.joined E.stands_for E.low_of rules kind t c.args.tables.now.good s.nodes.items s.queue s.best s.turns c.in_ok-search.ensures.search p f) c.finish.ensures

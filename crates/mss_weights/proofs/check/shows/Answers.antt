@@ -1,4 +1,4 @@
-use Rattle.std.proofs.Common.{◌≡◌, ◌∙◌, true, map, sym}
+use Rattle.std.proofs.Common.{◌∙◌, map, sym}
 use Rattle.mss_model.specs.PartsOf.{parts_of}
 use Rattle.mss_weights.proofs.Checked.{shown}
 use Rattle.mss_weights.proofs.check.shows.Goals as goal

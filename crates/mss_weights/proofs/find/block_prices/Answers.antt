@@ -1,6 +1,6 @@
-use Rattle.std.proofs.Common.{◌≡◌, ◌∷◌, [], arith}
+use Rattle.std.proofs.Common.{◌∷◌, [], arith}
 use Rattle.std.proofs.lemmas.List.{length-append}
-use Rattle.mss_lines.proofs.SpacedNumbers.{short-more}
+use Rattle.mss_lines.specs.SpacedNumbersLaws.{short-more}
 use Rattle.mss_weights.proofs.find.block_prices.Goals as goal
 
 pub loop-place-preserved : goal.loop-place-preserved

@@ -1,4 +1,4 @@
-use Rattle.mss_weights.proofs.LabelledNumbers.{no_labelled, is_labelled, without_word}
+use Rattle.mss_weights.specs.LabelledNumbersLaws.{no_labelled, is_labelled, without_word}
 use Rattle.mss_weights.proofs.labelled.labelled.Goals as goal
 
 pub returns-in_err-after : goal.returns-in_err-after

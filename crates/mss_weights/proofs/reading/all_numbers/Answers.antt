@@ -1,7 +1,7 @@
-use Rattle.std.proofs.Common.{◌≡◌, ◌∙◌, ◌<◌, ◌++◌, length, sym, ap, arith}
+use Rattle.std.proofs.Common.{◌∙◌, ◌<◌, ◌++◌, length, sym, ap, arith}
 use Rattle.std.proofs.lemmas.Bool.Decides.{nat_tests}
 use Rattle.mss_lines.specs.Fields.{fields}
-use Rattle.mss_lines.proofs.SpacedNumbers.{fields-more, no_fields, short-more}
+use Rattle.mss_lines.specs.SpacedNumbersLaws.{fields-more, no_fields, short-more}
 use Rattle.mss_weights.proofs.reading.all_numbers.Goals as goal
 
 pub returns-in_default : goal.returns-in_default

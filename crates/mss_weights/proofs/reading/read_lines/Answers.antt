@@ -1,6 +1,6 @@
 use Rattle.std.proofs.Common.{refl}
 use Rattle.std.proofs.lemmas.Result.{err_from_is_err_and}
-use Rattle.mss_weights.proofs.WeightTexts.{is_after_head, lacks_head, other_head, refused_text}
+use Rattle.mss_weights.specs.WeightTextsLaws.{is_after_head, lacks_head, other_head, refused_text}
 use Rattle.mss_weights.proofs.reading.read_lines.Goals as goal
 
 pub returns-in_default-first_line-clause-fault : goal.returns-in_default-first_line-clause-fault

@@ -1,4 +1,4 @@
-use Rattle.mss_weights.proofs.WeightTexts.{reads_only}
+use Rattle.mss_weights.specs.WeightTextsLaws.{reads_only}
 use Rattle.mss_weights.proofs.reading.read_weights.Goals as goal
 
 pub returns-clause-only : goal.returns-clause-only

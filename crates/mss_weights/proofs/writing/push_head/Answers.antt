@@ -1,6 +1,6 @@
 use Rattle.std.proofs.Common.{◌∙◌, ◌++◌, ◌∷◌, [], codes, ap}
 use Rattle.std.proofs.lemmas.Result.{on_ok_weaker}
-use Rattle.mss_weights.proofs.LabelledNumbers.{three-onto}
+use Rattle.mss_weights.specs.LabelledNumbersLaws.{three-onto}
 use Rattle.mss_weights.specs.WeightsText.{version_text}
 use Rattle.mss_weights.proofs.writing.push_head.Goals as goal
 

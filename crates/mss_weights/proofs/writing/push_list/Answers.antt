@@ -1,4 +1,4 @@
-use Rattle.std.proofs.Common.{◌≡◌, ◌∙◌, ◌++◌, take, get_or, refl, ap, arith, take_all}
+use Rattle.std.proofs.Common.{◌≡◌, ◌∙◌, ◌++◌, take, get_or, refl, ap, take_all}
 use Rattle.std.proofs.lemmas.Result.{on_ok_weaker}
 use Rattle.mss_lines.specs.Fields.{fields}
 use Rattle.mss_weights.proofs.WeightsWritten.{number_written, line_written}

@@ -1,4 +1,4 @@
-use Rattle.std.proofs.Common.{◌≡◌, ◌∙◌, ◌++◌, ◌∷◌, ◌≤◌, [], codes, ap, subst, sym, length, arith}
+use Rattle.std.proofs.Common.{◌≡◌, ◌∙◌, ◌++◌, ◌∷◌, [], codes, ap, length, arith}
 use Rattle.mss_lines.specs.Fields.{fields}
 use Rattle.mss_weights.specs.WeightsText.{head_text, version_text, weights_text}
 use Rattle.mss_weights.proofs.WeightsWritten.{all_written, weights-long}

@@ -3,7 +3,7 @@ use Rattle.mss_model.specs.PartsOf.{parts_of}
 use Rattle.mss_census.specs.declared.quantity.Quantity.TheVariants.{Census}
 use Rattle.mss_census.specs.CensusView.{CensusView}
 use Rattle.mss_census.specs.WardLists.{WardLists, lists_of, census_list}
-use Rattle.mss_census.proofs.WholeCensus.{census-long}
+use Rattle.mss_census.specs.WholeCensusLaws.{census-long}
 use Rattle.mss_check.specs.PrefixLists.{PrefixListView}
 use Rattle.mss_check.proofs.prefix_list.PrefixList.set_prefix.Goals as goal
 

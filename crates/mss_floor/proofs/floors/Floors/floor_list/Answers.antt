@@ -1,7 +1,7 @@
 use Rattle.std.proofs.Common.{◌-◌, ap, ◌∙◌}
 use Rattle.mss_model.specs.PartsOf.{parts_of}
 use Rattle.mss_enclose.specs.Words.{mass_lists}
-use Rattle.mss_floor.proofs.KnownLists.{lists-known}
+use Rattle.mss_floor.specs.KnownListsLaws.{lists-known}
 use Rattle.mss_floor.proofs.floors.Floors.floor_list.Goals as goal
 
 pub set_floor-requires-clause-lists : goal.set_floor-requires-clause-lists

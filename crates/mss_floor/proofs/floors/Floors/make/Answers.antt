@@ -5,7 +5,7 @@ use Rattle.mss_model.specs.PartsOf.{parts_of}
 use Rattle.mss_enclose.specs.Words.{mass_lists}
 use Rattle.mss_thin.specs.SteadyLists.{steady_lists}
 use Rattle.mss_census.specs.declared.quantity.Quantity.TheVariants.{Census}
-use Rattle.mss_census.proofs.TableBlocks.{take-lists}
+use Rattle.mss_census.specs.TableBlocksLaws.{take-lists}
 use Rattle.mss_floor.proofs.floors.Floors.make.Goals as goal
 
 pub loop-j-preserved : goal.loop-j-preserved

@@ -6,7 +6,7 @@ use Rattle.mss_enclose.specs.Words.{mass_lists}
 use Rattle.mss_floor.specs.FloorLists.{specialty_floor}
 use Rattle.mss_floor.specs.FlooredLists.{fitting}
 use Rattle.mss_floor.specs.ForcedBlocks.{forced}
-use Rattle.mss_floor.proofs.KnownLists.{lists-known}
+use Rattle.mss_floor.specs.KnownListsLaws.{lists-known}
 use Rattle.mss_floor.proofs.OneFloor.{floors-there, lies-is}
 use Rattle.mss_floor.proofs.floors.Floors.push_specialty.Goals as goal
 

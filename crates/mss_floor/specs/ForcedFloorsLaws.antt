@@ -6,29 +6,29 @@ use Rattle.std.proofs.lemmas.List.{length-append}
 use Rattle.std.proofs.Math.Nat.{div-lt_iff_lt-mul}
 use Rattle.mss_model.specs.declared.parts.TableParts.{TableParts}
 use Rattle.mss_model.specs.BlockAtAge.{block_at_age}
-use Rattle.mss_model.specs.Distribution.{joint, joint_all}
+use Rattle.mss_model.specs.Distribution.{convolution, convolution_all}
 use Rattle.mss_model.specs.Percentile.{cumulative}
 use Rattle.mss_model.specs.TableWords.{room_count, slot_count, block_of, day_of}
 use Rattle.mss_model.specs.Limits.{IsTables}
 use Rattle.mss_model.specs.Occurrences.{lies_on, offset, offset_ages}
 use Rattle.mss_model.specs.Census.{those_present, census}
 use Rattle.mss_model.specs.Legality.{IsLegal, could_take, some_below}
-use Rattle.mss_model.proofs.JointSums.{nonempty, joint-unit_right}
+use Rattle.mss_model.proofs.ConvolutionSums.{nonempty, convolution-unit_right}
 use Rattle.mss_enclose.specs.Unit.{unit}
 use Rattle.mss_enclose.specs.Kept.{StandsFor, LeanStands, PartsStand, raised, lean_convolution}
 use Rattle.mss_enclose.specs.LeanLaws.{length-raised, sum-raised, lean-push}
-use Rattle.mss_enclose.proofs.ManyPushes.{all-stand, sum-joint_all}
+use Rattle.mss_enclose.specs.ManyPushesLaws.{all-stand, sum-convolution_all}
 use Rattle.mss_rules.specs.RuleLaws.{each_below}
 use Rattle.mss_floor.specs.ForcedBlocks.{forced_blocks, blocks_from}
 use Rattle.mss_floor.specs.FloorLists.{choices, floor_of, is_open_day, specialty_floor, steady_list}
 use Rattle.mss_floor.specs.FlooredLists.{fitting, floors_for, floored_list, LiesBelow}
 use Rattle.mss_floor.specs.LowestSums.{AreFull}
-use Rattle.mss_census.proofs.TableBlocks.{block-good}
-use Rattle.mss_floor.proofs.KnownLists.{steady_sum, steady-stands}
-use Rattle.mss_floor.proofs.OrderOfSums.{IsBelow, is_below-trans, is_below-self, is_below-joint, nothing-below}
-use Rattle.mss_floor.proofs.LaterSlots.{slot_census, later_census, later-positive, later-append, TakenOut, take-out}
-use Rattle.mss_floor.proofs.FloorOrder.{Among, sum-floor, floor-below, floor-one, raised-below}
-use Rattle.mss_floor.proofs.NeededBlocks.{times, times-take, forced-times, forced-lie}
+use Rattle.mss_census.specs.TableBlocksLaws.{block-good}
+use Rattle.mss_floor.specs.KnownListsLaws.{steady_sum, steady-stands}
+use Rattle.mss_floor.specs.OrderOfSumsLaws.{IsBelow, is_below-trans, is_below-self, is_below-convolution, nothing-below}
+use Rattle.mss_floor.specs.LaterSlotsLaws.{slot_census, later_census, later-positive, later-append, TakenOut, take-out}
+use Rattle.mss_floor.specs.FloorOrderLaws.{Among, sum-floor, floor-below, floor-one, raised-below}
+use Rattle.mss_floor.specs.NeededBlocksLaws.{times, times-take, forced-times, forced-lie}
 
 -- ---- a floor lies at or below what a block adds
 
@@ -89,7 +89,7 @@ presences t j [] = refl
 presences t j (n ∷ ns) = ap (λ r. block_at_age (block_of t j) n ∷ r) (presences t j ns)
 
 slot-is : (t : TableParts) (w day place j : ℕ) → lies_on t.ward_of w j ≡ true → slot_census t w day place j ≡ steady_sum t.days (block_of t j) (offset t.days day (day_of t place))
-slot-is t w day place j on = rw on (ap joint_all (presences t j (offset_ages t.days (length (block_of t j).stays) (offset t.days day (day_of t place)))))
+slot-is t w day place j on = rw on (ap convolution_all (presences t j (offset_ages t.days (length (block_of t j).stays) (offset t.days day (day_of t place)))))
 
 specialty-below : (t : TableParts) (p : List ℕ) (w day j place : ℕ) → IsTables t → length p ≤ place → place < slot_count t → could_take t place j ≡ true
     → lies_on t.ward_of w j ≡ true → IsBelow (specialty_floor t p day j) (slot_census t w day place j)
@@ -117,14 +117,14 @@ first-time j gs = let e : (j == j) ≡ true = eq-eqb j j refl in rw e refl
 floors-below : (t : TableParts) (w day stop slot : ℕ) (F : ℕ → List ℕ) (gs r : List ℕ) → IsTables t
     → ((j place : ℕ) → slot ≤ place → place < stop → could_take t place j ≡ true → lies_on t.ward_of w j ≡ true → IsBelow (F j) (slot_census t w day place j))
     → slot + length r ≤ stop → ((i : ℕ) → 0 < times i gs → lies_on t.ward_of w i ≡ true) → ((i : ℕ) → 0 < i → times i gs ≤ blocks_from t i slot r)
-    → IsBelow (joint_all (map F gs)) (later_census t w day slot r)
+    → IsBelow (convolution_all (map F gs)) (later_census t w day slot r)
 floors-below t w day stop slot F [] r good each within on few = nothing-below (later_census t w day slot r) (later-positive t w day slot r good)
 floors-below t w day stop slot F (j ∷ gs) r good each within on few =
     let one : times j (j ∷ gs) ≡ 1 + times j gs = first-time j gs in
     let here : lies_on t.ward_of w j ≡ true = on j (omega (arith, one)) in
     let out : TakenOut t w day stop j slot r = take-out t w day stop j slot r good within (omega (arith, one, few j (lies-some t.ward_of w j here))) in
-    subst (IsBelow (joint (F j) (joint_all (map F gs)))) (sym out.sum)
-    (is_below-joint (F j) (slot_census t w day out.place j) (joint_all (map F gs)) (later_census t w day slot out.left)
+    subst (IsBelow (convolution (F j) (convolution_all (map F gs)))) (sym out.sum)
+    (is_below-convolution (F j) (slot_census t w day out.place j) (convolution_all (map F gs)) (later_census t w day slot out.left)
     (each j out.place out.from out.before out.could here)
     (floors-below t w day stop slot F gs out.left good each (omega (arith, within, out.long))
     (λ i some. on i (omega (arith, some)))
@@ -144,7 +144,7 @@ fitting-front (suc most) long (part ∷ parts) =
 
 -- the census of a prefix and the floors that are pushed, as exact distributions
 abbrev pub floored_sum : TableParts → List ℕ → ℕ → ℕ → ℕ → List ℕ
-floored_sum t p w day long = joint_all (census t w day p ∷ floors_for t p w day long)
+floored_sum t p w day long = convolution_all (census t w day p ∷ floors_for t p w day long)
 
 pub floored-below : (t : TableParts) (p r : List ℕ) (w day long : ℕ) → IsTables t → IsLegal t (p ++ r)
     → IsBelow (floored_sum t p w day long) (census t w day (p ++ r))
@@ -155,17 +155,17 @@ floored-below t p r w day long good h =
     let pushed : floors_for t p w day long ≡ map F (take front.0 (forced_blocks t p w)) = front.1 ∙ take-map F front.0 (forced_blocks t p w) in
     let whole : length p + length r ≡ slot_count t = sym (length-append p r) ∙ h.whole in
     let none : 0 + length p ≡ length p = omega arith in
-    let behind : IsBelow (joint_all (map F gs)) (later_census t w day (length p) r) =
+    let behind : IsBelow (convolution_all (map F gs)) (later_census t w day (length p) r) =
     floors-below t w day (slot_count t) (length p) F gs r good
     (λ j place from before could on. specialty-below t p w day j place good from before could on)
     (omega (arith, whole))
     (λ i some. forced-lie t p w i (omega (arith, some, times-take i front.0 (forced_blocks t p w))))
     (λ i some. omega (arith, times-take i front.0 (forced_blocks t p w), forced-times t p r w i h)) in
-    subst (λ fs. IsBelow (joint_all (census t w day p ∷ fs)) (census t w day (p ++ r))) (sym pushed)
-    (subst (IsBelow (joint (census t w day p) (joint_all (map F gs)))) (sym (later-append t w day 0 p r good))
-    (is_below-joint (census t w day p) (census t w day p) (joint_all (map F gs)) (later_census t w day (0 + length p) r)
+    subst (λ fs. IsBelow (convolution_all (census t w day p ∷ fs)) (census t w day (p ++ r))) (sym pushed)
+    (subst (IsBelow (convolution (census t w day p) (convolution_all (map F gs)))) (sym (later-append t w day 0 p r good))
+    (is_below-convolution (census t w day p) (census t w day p) (convolution_all (map F gs)) (later_census t w day (0 + length p) r)
     (is_below-self (census t w day p) (later-positive t w day 0 p good))
-    (subst (λ s. IsBelow (joint_all (map F gs)) (later_census t w day s r)) (sym none) behind)))
+    (subst (λ s. IsBelow (convolution_all (map F gs)) (later_census t w day s r)) (sym none) behind)))
 
 -- ---- floors as parts
 
@@ -198,7 +198,7 @@ floors-stand t p w day long good =
 
 -- whatever list stands for the census, with the floors it stands for the census and the floors
 pub floored-stands : (j : List ℕ → List ℕ → List ℕ) (S : List ℕ → List ℕ → Type 0)
-    → ((a b e f : List ℕ) → S a e → StandsFor b f → S (j a b) (joint e f))
+    → ((a b e f : List ℕ) → S a e → StandsFor b f → S (j a b) (convolution e f))
     → (t : TableParts) (p : List ℕ) (w day : ℕ) (list : List ℕ) → IsTables t → S list (census t w day p)
     → S (floored_list j t p w day list) (floored_sum t p w day (length list))
 floored-stands j S law t p w day list good h =
@@ -233,6 +233,6 @@ pub part-below : (t : TableParts) (p : List ℕ) (w day long : ℕ) → IsTables
 part-below t p w day long good =
     let e : List ℕ = census t w day p in
     let some : 0 < sum (census t w day p) = later-positive t w day 0 p good in
-    let rest : 0 < sum (joint_all (floors_for t p w day long)) = sum-joint_all (floors_for t p w day long) (floors_for t p w day long) (floors-stand t p w day long good) in
-    subst (λ d. IsBelow d (floored_sum t p w day long)) (joint-unit_right e (nonempty e some))
-    (is_below-joint e e (1 ∷ []) (joint_all (floors_for t p w day long)) (is_below-self e some) (nothing-below (joint_all (floors_for t p w day long)) rest))
+    let rest : 0 < sum (convolution_all (floors_for t p w day long)) = sum-convolution_all (floors_for t p w day long) (floors_for t p w day long) (floors-stand t p w day long good) in
+    subst (λ d. IsBelow d (floored_sum t p w day long)) (convolution-unit_right e (nonempty e some))
+    (is_below-convolution e e (1 ∷ []) (convolution_all (floors_for t p w day long)) (is_below-self e some) (nothing-below (convolution_all (floors_for t p w day long)) rest))

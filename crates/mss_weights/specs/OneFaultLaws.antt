@@ -1,13 +1,13 @@
 -- A text has one first fault.
-use Rattle.std.proofs.Common.{◌≡◌, ℕ, ◌+◌, ◌<◌, ◌≤◌, List, [], ◌∷◌, ◌++◌, length, refl, sym, ◌∙◌, ap, subst, arith}
+use Rattle.std.proofs.Common.{◌≡◌, ℕ, ◌≤◌, List, ◌∷◌, ◌++◌, length, refl, sym, ◌∙◌, subst, arith}
 use Rattle.std.proofs.lemmas.List.{append_cancel_left}
 use Rattle.mss_weights.specs.declared.faults.WeightsKind.{WeightsKind}
 use Rattle.mss_weights.specs.declared.faults.WeightsKind.TheVariants as kind
 use Rattle.mss_weights.specs.ListLines.{IsListsFault}
 use Rattle.mss_weights.specs.WeightsFaults.{GoesOn, HasBadList, HasNoHead, IsAfterHead, IsFaultAt}
 use Rattle.mss_weights.specs.WeightsText.{head_text, version_text, words}
-use Rattle.mss_weights.proofs.ListTexts.{no_more}
-use Rattle.mss_weights.proofs.WeightTexts.{after_head}
+use Rattle.mss_weights.specs.ListTextsLaws.{no_more}
+use Rattle.mss_weights.specs.WeightTextsLaws.{after_head}
 
 -- ---- in the lines from the third on
 

@@ -1,10 +1,10 @@
 -- The lines of the lists: what stands at the front is of one list.
-use Rattle.std.proofs.Common.{◌≡◌, ℕ, zero, suc, ◌+◌, ◌<◌, ◌≤◌, List, [], ◌∷◌, ◌++◌, length, get_or, refl, sym, ◌∙◌, ap, arith, append_assoc}
+use Rattle.std.proofs.Common.{◌≡◌, ℕ, ◌≤◌, List, [], ◌∷◌, ◌++◌, length, get_or, refl, sym, ◌∙◌, ap, arith, append_assoc}
 use Rattle.std.specs.List.{AllByRecursion}
 use Rattle.std.proofs.lemmas.List.{append_cancel_left}
 use Rattle.mss_lines.specs.Fields.{fields, AreShort}
-use Rattle.mss_lines.proofs.OneLine.{fields-one_line, same_line}
-use Rattle.mss_lines.proofs.SpacedNumbers.{same_numbers}
+use Rattle.mss_lines.specs.OneLineLaws.{fields-one_line, same_line}
+use Rattle.mss_lines.specs.SpacedNumbersLaws.{same_numbers}
 use Rattle.mss_weights.specs.WeightsFaults.{IsList, IsWithoutList}
 use Rattle.mss_weights.specs.WeightsText.{lists_text}
 

@@ -1,11 +1,11 @@
 -- A text is that of one certificate of weights, or has a fault.
-use Rattle.std.proofs.Common.{◌≡◌, ◌≢◌, ℕ, ◌<◌, ◌≤◌, List, [], ◌∷◌, ◌++◌, length, get_or, codes, refl, sym, ◌∙◌, ap, subst, arith, Ok, Err, Result, IfOk, IfErr, MatchResult}
+use Rattle.std.proofs.Common.{◌≡◌, ◌≢◌, ℕ, ◌≤◌, List, [], ◌∷◌, ◌++◌, length, get_or, codes, refl, sym, ◌∙◌, ap, subst, arith, Ok, Err, Result, IfOk, IfErr, MatchResult}
 use Rattle.std.specs.List.{AllByRecursion}
 use Rattle.std.proofs.lemmas.List.{append-nil, append_cancel_left}
 use Rattle.mss_lines.specs.Fields.{AreShort}
 use Rattle.mss_lines.specs.Lines.{IsOneLine}
-use Rattle.mss_weights.proofs.LabelledNumbers.{same_three, three-one_line}
-use Rattle.mss_lines.proofs.OneLine.{is_one_line, tells_one_line, no_end_in, same_line}
+use Rattle.mss_weights.specs.LabelledNumbersLaws.{same_three, three-one_line}
+use Rattle.mss_lines.specs.OneLineLaws.{is_one_line, tells_one_line, no_end_in, same_line}
 use Rattle.mss_weights.specs.declared.faults.WeightsKind.{WeightsKind}
 use Rattle.mss_weights.specs.declared.faults.WeightsKind.TheVariants as kind
 use Rattle.mss_weights.specs.declared.faults.WeightsRefusal.{WeightsRefusal}
@@ -14,7 +14,7 @@ use Rattle.mss_weights.specs.declared.weights.Weights.{Weights}
 use Rattle.mss_weights.specs.ListLines.{IsListsFault, RefusesLists}
 use Rattle.mss_weights.specs.WeightsFaults.{IsAfterHead, HasNoHead, IsFaultAt, RefusesText}
 use Rattle.mss_weights.specs.WeightsText.{IsShort, head_text, lists_of, lists_text, version_text, weights_text, words}
-use Rattle.mss_weights.proofs.ListTexts.{no_more, same_lists}
+use Rattle.mss_weights.specs.ListTextsLaws.{no_more, same_lists}
 
 head-one_line : (number power reach : ℕ) → AreShort (number ∷ power ∷ reach ∷ []) → IsOneLine (head_text number power reach)
 unfolding is_one_line

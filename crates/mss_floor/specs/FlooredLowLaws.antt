@@ -3,30 +3,30 @@ use Rattle.std.proofs.Common.{◌≡◌, Bool, true, false, cond, ℕ, zero, suc
 use Rattle.std.proofs.lemmas.Bool.{cases_Bool}
 use Rattle.std.proofs.lemmas.List.Sums.{sum_by-cons}
 use Rattle.mss_model.specs.declared.parts.TableParts.{TableParts}
-use Rattle.mss_model.specs.Distribution.{joint, joint_all}
-use Rattle.mss_model.specs.Percentile.{least, percentile}
+use Rattle.mss_model.specs.Distribution.{convolution, convolution_all}
+use Rattle.mss_model.specs.Percentile.{least, percentile_at, percentile_below}
 use Rattle.mss_model.specs.TableWords.{slot_count}
 use Rattle.mss_model.specs.Limits.{IsTables}
 use Rattle.mss_model.specs.Census.{census}
 use Rattle.mss_model.specs.Legality.{IsLegal}
 use Rattle.mss_enclose.specs.Kept.{StandsFor, Within, rest_of}
-use Rattle.mss_enclose.proofs.ManyPushes.{all-near, within-more}
+use Rattle.mss_enclose.specs.ManyPushesLaws.{all-near, within-more}
 use Rattle.mss_floor.specs.FlooredLists.{fitting, floors_for, floored_list}
 use Rattle.mss_floor.specs.ForcedBlocks.{forced_blocks}
 use Rattle.mss_floor.specs.FloorLists.{specialty_floor}
-use Rattle.mss_model.proofs.JointSums.{nonempty}
-use Rattle.mss_model.proofs.ListsAsFunctions.{length-joint}
+use Rattle.mss_model.proofs.ConvolutionSums.{nonempty}
+use Rattle.mss_model.proofs.ListsAsFunctions.{length-convolution}
 use Rattle.mss_floor.specs.LowestSums.{AreFull}
-use Rattle.mss_floor.proofs.OrderOfSums.{percentile-below}
-use Rattle.mss_floor.proofs.LaterSlots.{later-positive}
-use Rattle.mss_floor.proofs.ForcedFloors.{floored_sum, floored-below, floored-stands, floors-stand, floors-full, floors-are_full, part-below}
+use Rattle.mss_floor.specs.OrderOfSumsLaws.{percentile-below}
+use Rattle.mss_floor.specs.LaterSlotsLaws.{later-positive}
+use Rattle.mss_floor.specs.ForcedFloorsLaws.{floored_sum, floored-below, floored-stands, floors-stand, floors-full, floors-are_full, part-below}
 
 -- at most the percentile of each legal cycle that the prefix begins
 pub floored_low-at_most : (j : List ℕ → List ℕ → List ℕ) (S : List ℕ → List ℕ → Type 0) (low_of : List ℕ → ℕ → ℕ)
-    → ((a b e f : List ℕ) → S a e → StandsFor b f → S (j a b) (joint e f))
-    → ((a e : List ℕ) (v : ℕ) → S a e → low_of a v ≤ percentile e v 1000000)
+    → ((a b e f : List ℕ) → S a e → StandsFor b f → S (j a b) (convolution e f))
+    → ((a e : List ℕ) (v : ℕ) → S a e → low_of a v ≤ percentile_at e v)
     → (t : TableParts) (p r : List ℕ) (w day v : ℕ) (list : List ℕ) → IsTables t → IsLegal t (p ++ r) → S list (census t w day p)
-    → low_of (floored_list j t p w day list) v ≤ percentile (census t w day (p ++ r)) v 1000000
+    → low_of (floored_list j t p w day list) v ≤ percentile_at (census t w day (p ++ r)) v
 floored_low-at_most j S low_of law low t p r w day v list good h stands =
     le_trans (low (floored_list j t p w day list) (floored_sum t p w day (length list)) v (floored-stands j S law t p w day list good stands))
     (percentile-below (floored_sum t p w day (length list)) (census t w day (p ++ r)) v 1000000 (floored-below t p r w day (length list) good h))
@@ -66,8 +66,8 @@ full-rests [] h = refl
 full-rests (a ∷ parts) h = omega (arith, sum_by-cons rest_of a parts, h.0, full-rests parts h.1)
 
 pub floored-near : (j : List ℕ → List ℕ → List ℕ) (S : List ℕ → List ℕ → Type 0)
-    → ((a b e f : List ℕ) → S a e → StandsFor b f → S (j a b) (joint e f))
-    → ((a b e f : List ℕ) (s r : ℕ) → S a e → Within s a e → StandsFor b f → Within r b f → Within (s + r + (length a + length b - 1)) (j a b) (joint e f))
+    → ((a b e f : List ℕ) → S a e → StandsFor b f → S (j a b) (convolution e f))
+    → ((a b e f : List ℕ) (s r : ℕ) → S a e → Within s a e → StandsFor b f → Within r b f → Within (s + r + (length a + length b - 1)) (j a b) (convolution e f))
     → ((a b : List ℕ) → length (j a b) ≡ length a + length b - 1)
     → (t : TableParts) (p : List ℕ) (w day slack : ℕ) (list : List ℕ) → IsTables t → S list (census t w day p) → Within slack list (census t w day p)
     → length list ≤ 15361 → slack + (slot_count t - length p) * 15361 ≤ 2 ^ 30
@@ -83,11 +83,11 @@ floored-near j S law near len t p w day slack list good stands close short fits 
 
 -- ---- how large it is
 
-sum-long : (parts : List (List ℕ)) → AreFull parts → length (joint_all parts) ≡ 1 + sum_by (λ p. length p - 1) parts
+sum-long : (parts : List (List ℕ)) → AreFull parts → length (convolution_all parts) ≡ 1 + sum_by (λ p. length p - 1) parts
 sum-long [] h = refl
 sum-long (a ∷ parts) h =
     let some : 0 < length a = nonempty a (rw (h.0) (lit< tt)) in
-    omega (arith, some, length-joint a (joint_all parts), sum-long parts h.1, sum_by-cons (λ p. length p - 1) a parts)
+    omega (arith, some, length-convolution a (convolution_all parts), sum-long parts h.1, sum_by-cons (λ p. length p - 1) a parts)
 
 floored_sum-long : (t : TableParts) (p : List ℕ) (w day long : ℕ) → IsTables t → length (census t w day p) ≡ long → long ≤ 15361
     → length (floored_sum t p w day long) ≤ 15361
@@ -95,7 +95,7 @@ floored_sum-long t p w day long good same short =
     omega (
       arith,
       same,
-      length-joint (census t w day p) (joint_all (floors_for t p w day long)),
+      length-convolution (census t w day p) (convolution_all (floors_for t p w day long)),
       sum-long (floors_for t p w day long) (floors-are_full t p w day long good),
       fitting-short (slot_count t - length p) long (map (specialty_floor t p day) (forced_blocks t p w)) (floors-full t p day (forced_blocks t p w) good) short,
     )
@@ -110,8 +110,8 @@ least-within (suc n) test = pick (test 0) (least-within n (λ x. test (suc x)))
 
 -- no larger than the longest list
 pub floored_low-short : (j : List ℕ → List ℕ → List ℕ) (S : List ℕ → List ℕ → Type 0) (low_of : List ℕ → ℕ → ℕ)
-    → ((a b e f : List ℕ) → S a e → StandsFor b f → S (j a b) (joint e f))
-    → ((a e : List ℕ) (v : ℕ) → S a e → low_of a v ≤ percentile e v 1000000)
+    → ((a b e f : List ℕ) → S a e → StandsFor b f → S (j a b) (convolution e f))
+    → ((a e : List ℕ) (v : ℕ) → S a e → low_of a v ≤ percentile_at e v)
     → (t : TableParts) (p : List ℕ) (w day v : ℕ) (list : List ℕ) → IsTables t → S list (census t w day p) → length (census t w day p) ≡ length list → length list ≤ 15361
     → low_of (floored_list j t p w day list) v ≤ 15361
 floored_low-short j S low_of law low t p w day v list good stands same short =
@@ -120,11 +120,11 @@ floored_low-short j S low_of law low t p w day v list good stands same short =
 
 -- at least the percentile of the prefix at the level below
 pub floored_low-at_least : (j : List ℕ → List ℕ → List ℕ) (S : List ℕ → List ℕ → Type 0) (low_of : List ℕ → ℕ → ℕ)
-    → ((a b e f : List ℕ) → S a e → StandsFor b f → S (j a b) (joint e f))
-    → ((a e : List ℕ) (v : ℕ) → S a e → Within (2 ^ 30) a e → percentile e (v * 2 ^ 30 - 1000000) (1000000 * 2 ^ 30) ≤ low_of a v)
+    → ((a b e f : List ℕ) → S a e → StandsFor b f → S (j a b) (convolution e f))
+    → ((a e : List ℕ) (v : ℕ) → S a e → Within (2 ^ 30) a e → percentile_below e v ≤ low_of a v)
     → (t : TableParts) (p : List ℕ) (w day v : ℕ) (list : List ℕ) → IsTables t → S list (census t w day p)
     → Within (2 ^ 30) (floored_list j t p w day list) (floored_sum t p w day (length list))
-    → percentile (census t w day p) (v * 2 ^ 30 - 1000000) (1000000 * 2 ^ 30) ≤ low_of (floored_list j t p w day list) v
+    → percentile_below (census t w day p) v ≤ low_of (floored_list j t p w day list) v
 floored_low-at_least j S low_of law low t p w day v list good stands close =
     le_trans (percentile-below (census t w day p) (floored_sum t p w day (length list)) (v * 2 ^ 30 - 1000000) (1000000 * 2 ^ 30) (part-below t p w day (length list) good))
     (low (floored_list j t p w day list) (floored_sum t p w day (length list)) v (floored-stands j S law t p w day list good stands) close)

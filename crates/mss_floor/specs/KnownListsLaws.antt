@@ -12,8 +12,8 @@ use Rattle.mss_model.proofs.OffsetAges.{age_count-within}
 use Rattle.mss_enclose.specs.Kept.{StandsFor}
 use Rattle.mss_thin.specs.BlockLists.{kept_at_age}
 use Rattle.mss_thin.specs.SteadyLists.{offset_sum, steady_lists}
-use Rattle.mss_thin.proofs.BlockAges.{present-ages}
-use Rattle.mss_thin.proofs.OffsetLists.{offset-stands, offset-long}
+use Rattle.mss_thin.specs.BlockAgesLaws.{present-ages}
+use Rattle.mss_thin.specs.OffsetListsLaws.{offset-stands, offset-long}
 use Rattle.mss_floor.specs.FloorLists.{steady_list}
 
 -- the exact sum of the ages of an offset

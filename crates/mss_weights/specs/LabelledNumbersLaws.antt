@@ -1,11 +1,11 @@
 -- A word with its number at the front of some bytes.
-use Rattle.std.proofs.Common.{◌≡◌, ◌≢◌, ℕ, ◌<◌, ◌^◌, List, [], ◌∷◌, ◌++◌, refl, sym, ◌∙◌, ap, length, arith, append_assoc, decimal}
+use Rattle.std.proofs.Common.{◌≡◌, ◌≢◌, ℕ, ◌<◌, ◌^◌, List, [], ◌∷◌, ◌++◌, refl, sym, ◌∙◌, ap, arith, append_assoc, decimal}
 use Rattle.std.proofs.lemmas.List.{append_cancel_left}
 use Rattle.mss_lines.specs.Fields.{AreShort, EndsNumber, IsField, IsWithoutField}
 use Rattle.mss_weights.specs.Labelled.{labelled, three_labelled, IsLabelled, IsWithoutLabelled}
 use Rattle.mss_lines.specs.Lines.{IsOneLine}
-use Rattle.mss_lines.proofs.Digits.{same_number}
-use Rattle.mss_lines.proofs.OneLine.{one_line-append, number-one_line}
+use Rattle.mss_lines.specs.DigitsLaws.{same_number}
+use Rattle.mss_lines.specs.OneLineLaws.{one_line-append, number-one_line}
 
 space : (bs : List ℕ) → EndsNumber (32 ∷ bs)
 space bs d = omega arith
