@@ -17,7 +17,7 @@ mod naming;
 mod plans;
 mod slots;
 
-use mss_model::{Block, Blocks, Cycle, Names, Numbers, TableParts, Tables};
+use mss_model::{Block, Blocks, Cycle, Names, Numbers, PARTS, TableParts, Tables};
 use std::alloc::AllocGlobal;
 use std::process::Abort;
 
@@ -31,6 +31,7 @@ struct Given<'a> {
     stays: &'a [u32],
     low: u32,
     high: u32,
+    allow: u32,
 }
 
 /// Two days and two rooms, and two blocks of two patients who stay a day.
@@ -41,6 +42,7 @@ const FOUR_SLOTS: Given<'static> = Given {
     stays: &[1_000_000],
     low: 960,
     high: 960,
+    allow: 0,
 };
 
 /// These numbers as a list.
@@ -65,7 +67,7 @@ fn names(rt: &(impl AllocGlobal + Abort), texts: &[&str]) -> Names {
 
 /// The list of one block.
 fn one_block(rt: &(impl AllocGlobal + Abort), patients: &[u32], stays: &[u32]) -> Blocks {
-    let Some(block) = Block::new(numbers(rt, patients), numbers(rt, stays)) else {
+    let Some(block) = Block::new(PARTS, numbers(rt, patients), numbers(rt, stays)) else {
         panic!(rt; "no block");
     };
     let mut blocks = Blocks::make(rt.alloc());
@@ -79,6 +81,7 @@ fn given_parts(rt: &(impl AllocGlobal + Abort), given: &Given<'_>, slots: usize)
     assert!(rt; slots <= 16 && days <= 30 && given.rooms.len() <= 16);
     TableParts {
         days: given.days,
+        parts: PARTS,
         rooms: names(rt, given.rooms),
         minutes: numbers(rt, &[480; 16][..slots]),
         wards: names(rt, &["Main"]),
@@ -97,6 +100,7 @@ fn given_parts(rt: &(impl AllocGlobal + Abort), given: &Given<'_>, slots: usize)
         level: 500_000,
         levels: numbers(rt, &[500_000]),
         watch: numbers(rt, &[1]),
+        allow: numbers(rt, &[given.allow]),
         budget: 1_000,
     }
 }

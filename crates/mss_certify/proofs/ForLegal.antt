@@ -4,7 +4,7 @@ use Rattle.mss_model.specs.declared.parts.TableParts.{TableParts}
 use Rattle.mss_model.specs.Legality.{IsLegal}
 use Rattle.mss_model.specs.Limits.{IsTables}
 use Rattle.mss_alike.specs.Alike.{IsCanonical}
-use Rattle.mss_alike.proofs.CanonicalCycles.{lower-for-legal, none-for-legal}
+use Rattle.mss_alike.specs.CanonicalCyclesLaws.{lower-for-legal, none-for-legal}
 use Rattle.mss_cert.specs.declared.verdict.Verdict.{Verdict}
 use Rattle.mss_cert.specs.declared.verdict.Verdict.TheVariants.{Yes, No}
 use Rattle.mss_check.specs.Validity.{Proves, peak_at_level}

@@ -6,8 +6,8 @@ use Rattle.mss_cert.specs.declared.faults.CertFault.{CertFault}
 use Rattle.mss_cert.specs.declared.faults.CertKind.{CertKind}
 use Rattle.mss_cert.specs.declared.verdict.Verdict.TheVariants.{Yes}
 use Rattle.mss_cert.specs.CertificateFaults.{IsFaultAt}
-use Rattle.mss_cert.proofs.OneFault.{one_fault}
-use Rattle.mss_cert.proofs.OneText.{same_certificate, text_is_good}
+use Rattle.mss_cert.specs.OneFaultLaws.{one_fault}
+use Rattle.mss_cert.specs.OneTextLaws.{same_certificate, text_is_good}
 use Rattle.mss_check.specs.Tree.{end_of}
 use Rattle.mss_report.specs.CertificateTexts.{verdict_text_of}
 use Rattle.mss_command.specs.declared.status.Status.TheVariants as statuses

@@ -110,7 +110,7 @@ same_stored before after (name ∷ names) same =
 -- tables stay stored where files of other names are put
 pub still_stored : (puts : List (List ℕ × List ℕ)) (before after : Files) (tables : TableParts) → are_other table_names (map (λ put. put.0) puts) ≡ true
     → after ≡ put_all puts before → StoresTables before tables → StoresTables after tables
-still_stored puts before after tables apart put s =
+still_stored puts before after tables distinct put s =
     let names = map (λ put. put.0) puts in
-    let same = others_after puts names before after refl put table_names (each_other table_names names apart) in
+    let same = others_after puts names before after refl put table_names (each_other table_names names distinct) in
     record { bytes = s.bytes; stored = same_stored before after table_names same ∙ s.stored; within = s.within; means = s.means }

@@ -3,7 +3,7 @@ use Rattle.std.proofs.Common.{◌≡◌, ℕ, ◌<◌, ◌++◌, List, [], ◌�
 use Rattle.std.specs.List.{All}
 use Rattle.std.proofs.lemmas.List.Elements.{All-head, All-tail}
 use Rattle.mss_model.specs.declared.parts.TableParts.{TableParts}
-use Rattle.mss_pctl.specs.CensusPeak.{IsCyclePeak, census_high}
+use Rattle.mss_pctl.specs.CensusPeak.{IsCyclePeak, beds_high}
 use Rattle.mss_pctl.specs.Peaks.{IsFirstLargest, Place, peak_places}
 use Rattle.mss_pctl.specs.declared.peak.Peak.{Peak}
 use Rattle.mss_tables.specs.BlockFile.{block_at}
@@ -50,8 +50,8 @@ same_peak tables cycle p q a b =
     let low : p.low ≡ q.low = a.low ∙ sym b.low in
     let high : p.high ≡ q.high = a.high ∙ sym b.high in
     let place : record { ward = p.ward; day = p.day } ≡ record { ward = q.ward; day = q.day } =
-    same_place (census_high tables cycle) (peak_places tables) q.high (record { ward = p.ward; day = p.day }) (record { ward = q.ward; day = q.day })
-    (subst (λ n. IsFirstLargest (census_high tables cycle) (peak_places tables) n (record { ward = p.ward; day = p.day })) high a.place) b.place in
+    same_place (beds_high tables cycle) (peak_places tables) q.high (record { ward = p.ward; day = p.day }) (record { ward = q.ward; day = q.day })
+    (subst (λ n. IsFirstLargest (beds_high tables cycle) (peak_places tables) n (record { ward = p.ward; day = p.day })) high a.place) b.place in
     let ward : p.ward ≡ q.ward = ap (λ (x : Place). x.ward) place in
     let day : p.day ≡ q.day = ap (λ (x : Place). x.day) place in
     ap (λ n. peak_with n p.high p.ward p.day) low ∙ ap (λ n. peak_with q.low n p.ward p.day) high ∙ ap (λ n. peak_with q.low q.high n p.day) ward

@@ -2,7 +2,7 @@
 use Rattle.std.specs.Prelude.{◌≡◌, ℕ, Bool, true, false, List, Ok}
 use Rattle.mss_model.specs.Legality.{broken_rule}
 use Rattle.mss_model.specs.declared.parts.TableParts.{TableParts}
-use Rattle.mss_tables.specs.TablesMeaning.{tables_at}
+use Rattle.mss_tables.specs.TablesMeaning.{AreWithin, tables_at}
 use Rattle.mss_command.specs.declared.status.Status.{Status}
 use Rattle.mss_command.specs.declared.status.Status.TheVariants as statuses
 use Rattle.mss_command.specs.Outcome.{Outcome}
@@ -13,8 +13,9 @@ use Rattle.mss_gen.specs.declared.size.Size.{Size}
 use Rattle.mss_generate.specs.Puts.{table_puts}
 use Rattle.mss_generate.specs.Summary.{generate_text}
 
--- the text has the numbers of a plan of the tables that these files mean
+-- the text has the numbers of a plan of the tables that these files mean, each of which is within its limit of size
 pub record SaysPlan (number : ℕ) (size : Size) (files : List (List ℕ)) (text : List ℕ) : Type 0 where
+  pub within : AreWithin files
   pub tables : TableParts
   pub means : tables_at files ≡ Ok tables
   pub plan : Planned

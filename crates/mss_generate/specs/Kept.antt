@@ -9,7 +9,7 @@ use Rattle.mss_report.specs.declared.plan.PlanSummary.{PlanSummary}
 use Rattle.mss_gen.specs.Generated.{generated}
 use Rattle.mss_gen.specs.declared.size.Size.{Size}
 use Rattle.mss_model.specs.Legality.{IsLegal}
-use Rattle.mss_model.specs.Peak.{peak}
+use Rattle.mss_model.specs.Peak.{peak_at}
 use Rattle.mss_model.specs.declared.parts.TableParts.{TableParts}
 use Rattle.mss_plan.specs.Plan.{IsBelowAll, IsLeastOfAll}
 use Rattle.mss_generate.specs.Summary.{generate_text}
@@ -18,7 +18,7 @@ use Rattle.mss_generate.specs.Summary.{generate_text}
 -- lower number, and where the search closed, at least at the upper number at a level 2^-30 higher; without a number no cycle
 -- is legal.
 pub record AreNumbersOf (tables : TableParts) (s : PlanSummary) : Type 0 where
-  pub upper : (n : ℕ) → s.upper ≡ Some n → (cycle : List ℕ) × IsLegal tables cycle × (peak tables cycle tables.level 1000000 ≤ n)
+  pub upper : (n : ℕ) → s.upper ≡ Some n → (cycle : List ℕ) × IsLegal tables cycle × (peak_at tables cycle tables.level ≤ n)
   pub lower : IsBelowAll tables s.lower
   pub closed : s.spent ≡ false → IsLeastOfAll tables s.upper
 

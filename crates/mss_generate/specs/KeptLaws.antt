@@ -13,10 +13,9 @@ use Rattle.mss_plan.specs.Plan.{IsPlan, summary_of}
 use Rattle.mss_command.specs.Outcome.{Outcome, Did}
 use Rattle.mss_gen.specs.Generated.{files_of, generated, tables_rows}
 use Rattle.mss_gen.specs.declared.size.Size.{Size}
-use Rattle.mss_gen.proofs.DrawFacts.{generated-within}
 use Rattle.mss_generate.specs.Generates.{Generates}
 use Rattle.mss_generate.specs.Kept.{AreNumbersOf, Kept}
-use Rattle.mss_command.specs.PutFacts.{AreApart, apart_tested, other_after, stored_after}
+use Rattle.mss_command.specs.PutFacts.{AreDistinct, distinct_tested, other_after, stored_after}
 use Rattle.mss_generate.specs.Puts.{table_puts}
 
 -- the files are put under the names of the tables
@@ -31,8 +30,8 @@ ten-files : (number : ℕ) (size : Size) → length (generated number size) ≡ 
 unfolding files_of tables_rows
 ten-files number size = refl
 
-apart : AreApart table_names
-apart = apart_tested table_names refl
+distinct : AreDistinct table_names
+distinct = distinct_tested table_names refl
 
 -- where there is an upper number there is a cycle
 cycle-of : (tables : TableParts) (p : Planned) (best : Option (List ℕ)) (upper : Option ℕ) (n : ℕ)
@@ -57,8 +56,8 @@ generated_kept number size o c d defined did =
       tables = defined.says.tables;
       stored = record {
         bytes = generated number size;
-        stored = stored_after o.puts table_names c.files d.files names did.files apart ∙ bytes;
-        within = generated-within number size;
+        stored = stored_after o.puts table_names c.files d.files names did.files distinct ∙ bytes;
+        within = defined.says.within;
         means = defined.says.means;
       };
       drawn = refl;

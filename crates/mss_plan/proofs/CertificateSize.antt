@@ -5,7 +5,7 @@ use Rattle.std.specs.List.{AllByRecursion}
 use Rattle.std.proofs.lemmas.Fmt.{decimal_digit}
 use Rattle.mss_model.specs.Limits.{Between}
 use Rattle.mss_lines.specs.Fields.{fields, AreShort}
-use Rattle.mss_lines.proofs.FieldSizes.{nine_digits, fields-long}
+use Rattle.mss_lines.specs.FieldSizesLaws.{nine_digits, fields-long}
 use Rattle.mss_cert.specs.declared.certificate.Line.{Line}
 use Rattle.mss_cert.specs.declared.certificate.Line.TheVariants.{Branch, Dead, Full, Closed, OpenAt}
 use Rattle.mss_cert.specs.declared.certificate.End.{End}

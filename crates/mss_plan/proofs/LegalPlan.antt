@@ -8,7 +8,7 @@ use Rattle.mss_model.specs.declared.no_memory.NoMemory.{NoMemory}
 use Rattle.mss_model.specs.declared.parts.TableParts.{TableParts}
 use Rattle.mss_alike.specs.declared.rule_set.RuleSet.{RuleSet}
 use Rattle.mss_alike.specs.RuleSets.{IsMember, rule_of}
-use Rattle.mss_alike.proofs.RuleSets.{legal-member, lower-of-all, none-of-all, rule-small}
+use Rattle.mss_alike.specs.RuleSetsLaws.{legal-member, lower-of-all, none-of-all, rule-small}
 use Rattle.mss_enclose.specs.Kept.{lean_convolution, LeanStands, lean_low}
 use Rattle.mss_enclose.specs.LeanLaws.{length-lean_convolution, lean-start, lean-push, lean_low-at_most, lean-near, lean_low-near}
 use Rattle.mss_floor.specs.FlooredLists.{floored_census}
@@ -22,8 +22,8 @@ use Rattle.mss_search.specs.Promises.{HasOpen, IsIncumbent, board_of}
 use Rattle.mss_search.specs.Searching.{upper_of}
 use Rattle.mss_search.specs.Standing.{HasNoFull}
 use Rattle.mss_search.specs.declared.planner.Planned.{Planned}
-use Rattle.mss_search.proofs.ShortNumbers.{plan_short}
-use Rattle.mss_search.proofs.UpperSides.{KindLaws}
+use Rattle.mss_search.specs.ShortNumbersLaws.{plan_short}
+use Rattle.mss_search.specs.UpperSidesLaws.{KindLaws}
 use Rattle.mss_plan.specs.Plan.{IsBelowAll, IsLeastOfAll, IsPlan, IsSearch, certificate_limit, lower_of}
 use Rattle.mss_plan.proofs.CertificateSize.{certificate-long}
 use Rattle.mss_plan.proofs.NoCycle.{none_legal}

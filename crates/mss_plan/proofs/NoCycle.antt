@@ -8,12 +8,12 @@ use Rattle.mss_cert.specs.declared.certificate.Certificate.{Certificate}
 use Rattle.mss_bounds.specs.declared.prefix_bound.Bound.{Bound}
 use Rattle.mss_check.specs.Tree.{Task, Reads, under, number_of, least_number, end_of}
 use Rattle.mss_check.specs.Validity.{IsValidFor}
-use Rattle.mss_check.proofs.Agreement.{valid_read}
+use Rattle.mss_check.specs.AgreementLaws.{valid_read}
 use Rattle.mss_search.specs.Frugal.{Board, Held, In, IsRightlyTaken, on}
 use Rattle.mss_search.specs.Plan.{IsFrugal, placed}
 use Rattle.mss_search.specs.Promises.{HasOpen, board_of}
 use Rattle.mss_search.specs.Standing.{HasNoFull}
-use Rattle.mss_search.proofs.Ending.{least_stands}
+use Rattle.mss_search.specs.EndingLaws.{least_stands}
 
 -- each line of a tree has a prefix
 placed_line : (t : Task) (ps : List (List ℕ)) (ls : List Line) (l : Line) → Reads t ps ls → In l ls → (q : List ℕ) × on (placed t ps ls) q l

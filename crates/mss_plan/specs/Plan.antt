@@ -2,7 +2,7 @@
 -- what is promised of peaks speaks of every legal cycle.
 use Rattle.std.specs.Prelude.{◌≡◌, ◌⊎◌, ◌↔◌, ℕ, ◌+◌, ◌*◌, ◌^◌, ◌≤◌, Bool, true, false, IsTrue, List, [], ◌∷◌, ◌++◌, length, Option, Some, None, codes}
 use Rattle.mss_model.specs.Legality.{IsLegal}
-use Rattle.mss_model.specs.Peak.{peak}
+use Rattle.mss_model.specs.Peak.{peak_above}
 use Rattle.mss_model.specs.declared.parts.TableParts.{TableParts}
 use Rattle.mss_enclose.specs.Kept.{lean_convolution, lean_low}
 use Rattle.mss_floor.specs.FlooredLists.{floored_census}
@@ -49,7 +49,7 @@ IsBelowAll tables None = (cycle : List ℕ) → IsLegal tables cycle → ⊥
 
 -- each legal cycle peaks at least at the number at a level 2^-30 higher; where there is none, no cycle is legal
 abbrev pub IsLeastOfAll : TableParts → Option ℕ → Type 0
-IsLeastOfAll tables (Some n) = (cycle : List ℕ) → IsLegal tables cycle → n ≤ peak tables cycle (tables.level * 2 ^ 30 + 1000000) (1000000 * 2 ^ 30)
+IsLeastOfAll tables (Some n) = (cycle : List ℕ) → IsLegal tables cycle → n ≤ peak_above tables cycle tables.level
 IsLeastOfAll tables None = (cycle : List ℕ) → IsLegal tables cycle → ⊥
 
 -- the lower number of an end, where there is one

@@ -1,11 +1,11 @@
 -- What an evaluation tells: the counts, the peak, and the figures of each quantity, ward by ward and day by day.
 --
 -- Each text of an evaluation is a function of this report, so all texts have the same numbers.
-use Rattle.std.specs.Prelude.{◌≡◌, ℕ, ◌+◌, ◌-◌, ◌*◌, ◌^◌, ◌≤◌, ◌==◌, not, count_by, List, map}
+use Rattle.std.specs.Prelude.{◌≡◌, ℕ, ◌+◌, ◌-◌, ◌≤◌, ◌==◌, not, count_by, List, map}
 use Rattle.std.specs.List.{All, range_with_len}
 use Rattle.mss_model.specs.declared.parts.TableParts.{TableParts}
-use Rattle.mss_model.specs.TableWords.{room_count, specialty_count, ward_count, name_at}
-use Rattle.mss_model.specs.Percentile.{percentile}
+use Rattle.mss_model.specs.TableWords.{room_count, specialty_count, ward_count, allow_at, name_at}
+use Rattle.mss_model.specs.Percentile.{percentile_at, percentile_below, percentile_above}
 use Rattle.mss_model.specs.Census.{census}
 use Rattle.mss_model.specs.Movements.{admissions, discharges}
 use Rattle.mss_pctl.specs.declared.figure.LevelPair.{LevelPair}
@@ -43,13 +43,13 @@ pub record CountsHold (tables : TableParts) (options : List ℕ) (c : Counts) : 
   pub wards : c.wards ≡ ward_count tables
   pub blocks : c.blocks ≡ block_count options
 
--- The two numbers enclose the peak at the tables' level. The ward and day are a place of the peak: the census there has
--- a percentile of at least the high number at a level 2^-30 higher.
+-- The two numbers enclose the peak at the tables' level. The ward and day are a place of the peak: the ward's allowance and
+-- the percentile of the census there, at a level 2^-30 higher, come to at least the high number.
 pub record PeakHolds (tables : TableParts) (options : List ℕ) (level : ℕ) (p : Peak) : Type 0 where
   pub of_tables : level ≡ tables.level
   pub encloses : PeakEncloses tables options level p.low p.high
   pub place : IsPeakPlace tables (record { ward = p.ward; day = p.day })
-  pub reached : p.high ≤ percentile (census tables p.ward p.day options) (level * 2 ^ 30 + 1000000) (1000000 * 2 ^ 30)
+  pub reached : p.high ≤ allow_at tables p.ward + percentile_above (census tables p.ward p.day options) level
 
 -- The figures hold of the distribution e and leave nothing out: there is a pair for each of these levels, in their order,
 -- and the points go one by one from a first number to a last one. The first lies between the percentile at 1,000
@@ -60,8 +60,8 @@ pub record FiguresComplete (levels e : List ℕ) (f : FiguresView) : Type 0 wher
   pub first : ℕ
   pub last : ℕ
   pub in_order : map (λ (p : Point). p.patients) f.points ≡ range_with_len first (last + 1 - first)
-  pub begins : (percentile e (1000 * 2 ^ 30 - 1000000) (1000000 * 2 ^ 30) ≤ first) × (first ≤ percentile e 1000 1000000)
-  pub ends : (percentile e 999000 1000000 ≤ last) × (last ≤ percentile e (999000 * 2 ^ 30 + 1000000) (1000000 * 2 ^ 30))
+  pub begins : (percentile_below e 1000 ≤ first) × (first ≤ percentile_at e 1000)
+  pub ends : (percentile_at e 999000 ≤ last) × (last ≤ percentile_above e 999000)
 
 -- The figures of a day are those of the exact census, admissions and discharges of the ward on that day.
 pub record DayHolds (tables : TableParts) (options : List ℕ) (ward : ℕ) (d : DayReport) : Type 0 where

@@ -1,7 +1,7 @@
 -- What the commands of `mss_improve` come to, and what they promise.
 use Rattle.std.specs.Prelude.{◌≡◌, ◌⊎◌, ℕ, ◌≤◌, Bool, true, false, List, [], ◌∷◌, ◌++◌, codes}
 use Rattle.mss_model.specs.Legality.{IsLegal}
-use Rattle.mss_model.specs.Peak.{peak}
+use Rattle.mss_model.specs.Peak.{peak, peak_at}
 use Rattle.mss_model.specs.declared.parts.TableParts.{TableParts}
 use Rattle.mss_pctl.specs.Peaks.{PeakEncloses}
 use Rattle.mss_desk.specs.Desk.{Files, Content}
@@ -33,7 +33,7 @@ no_first_text = codes "no first cycle found in 1000 dives\n"
 -- the start enclose its peak.
 pub record IsBetter (tables : TableParts) (start cycle : List ℕ) (s : Summary) : Type 0 where
   pub legal : IsLegal tables cycle
-  pub upper : peak tables cycle tables.level 1000000 ≤ s.upper
+  pub upper : peak_at tables cycle tables.level ≤ s.upper
   pub no_worse : s.upper ≤ s.start_high
   pub start_peak : PeakEncloses tables start tables.level s.start_low s.start_high
   pub accepted : s.accepted ≤ s.tries

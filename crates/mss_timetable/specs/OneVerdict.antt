@@ -5,8 +5,8 @@ use Rattle.mss_weights.specs.declared.faults.WeightsFault.{WeightsFault}
 use Rattle.mss_weights.specs.declared.faults.WeightsKind.{WeightsKind}
 use Rattle.mss_weights.specs.declared.weights.Weights.{Weights}
 use Rattle.mss_weights.specs.WeightsFaults.{IsFaultAt}
-use Rattle.mss_weights.proofs.OneFault.{one_fault}
-use Rattle.mss_weights.proofs.WeightTexts.{same_weights, text_is_good}
+use Rattle.mss_weights.specs.OneFaultLaws.{one_fault}
+use Rattle.mss_weights.specs.WeightTextsLaws.{same_weights, text_is_good}
 use Rattle.mss_command.specs.CheckLaws.{IsOneToOne, text_is_one}
 use Rattle.mss_command.specs.OneOutcome.{IsOneAnswer}
 use Rattle.mss_command.specs.Outcome.{Outcome}

@@ -86,11 +86,11 @@ fn a_list_is_moved_and_halved(rt: HostRuntime) {
 #[test]
 fn a_thinning_row(rt: HostRuntime) {
     assert_eq!(rt;
-        ThinRow::of(300_000, 1).weights(),
+        ThinRow::of(1_000_000, 300_000, 1).weights(),
         [807_045_053_224_792_883, 345_876_451_382_054_092].as_slice()
     );
     assert_eq!(rt;
-        ThinRow::of(1_000_000, 2).weights(),
+        ThinRow::of(1_000_000, 1_000_000, 2).weights(),
         [0, 0, UNIT].as_slice()
     );
 }

@@ -15,6 +15,7 @@ const SIXTEEN_ROOMS: Given<'static> = Given {
     stays: &[1_000_000],
     low: 7_680,
     high: 7_680,
+    allow: 0,
 };
 
 #[test]

@@ -2,7 +2,7 @@ use Rattle.std.proofs.Common.{arith}
 use Rattle.mss_model.specs.PartsOf.{parts_of}
 use Rattle.mss_enclose.specs.Words.{masses_list}
 use Rattle.mss_census.specs.declared.quantity.Quantity.TheVariants.{Census, Admissions, Discharges}
-use Rattle.mss_pctl.proofs.CensusStands.{shown}
+use Rattle.mss_pctl.specs.CensusStandsLaws.{shown}
 use Rattle.mss_report.proofs.ReportHolds.{small-list, short-list}
 use Rattle.mss_report.proofs.evaluation.day_report.Goals as goal
 

@@ -1,16 +1,12 @@
-use Rattle.std.proofs.Common.{◌≡◌, ◌-◌, ◌++◌, ◌∙◌, List, append_assoc, ap, subst, sym, arith}
-use Rattle.std.specs.Prelude.{flat_map}
-use Rattle.std.specs.List.{range_with_len}
+use Rattle.std.proofs.Common.{◌≡◌, ◌∙◌, ap, arith}
 use Rattle.mss_model.specs.declared.parts.TableParts.{TableParts}
 use Rattle.mss_model.specs.PartsOf.{parts_of}
 use Rattle.mss_enclose.specs.Words.{masses_list}
-use Rattle.mss_enclose.specs.Kept.{masses_low, masses_high}
 use Rattle.mss_census.specs.declared.quantity.Quantity.TheVariants.{Census}
 use Rattle.mss_census.specs.CensusView.{CensusView}
-use Rattle.mss_pctl.specs.Peaks.{Place, day_places, IsPeakSoFar}
-use Rattle.mss_pctl.specs.CensusPeak.{kept_census, census_low, census_high}
-use Rattle.mss_pctl.proofs.PeakPlaces.{next_group}
-use Rattle.mss_pctl.proofs.CensusStands.{shown}
+use Rattle.mss_pctl.specs.CensusPeak.{kept_census}
+use Rattle.mss_pctl.specs.CensusStandsLaws.{shown}
+use Rattle.mss_pctl.specs.CyclePeakLaws.{day_counted}
 use Rattle.mss_report.specs.Evaluation.{day_report}
 use Rattle.mss_report.proofs.ReportHolds.{small-list, one-more}
 use Rattle.mss_report.proofs.evaluation.ward_report.Goals as goal
@@ -36,10 +32,6 @@ loop-day-preserved g c =
       days = one-more (day_report t c.args.cycle.now c.args.ward) c.loop-day.day c.loop-day.days.items c.push.new.self.items c.in_ok-report.report
           c.loop-day.invariant.first c.loop-day.invariant.days c.in_ok-report.ensures.value c.in_ok-push.ensures.items;
       peak = λ places before.
-          let so_far : List Place = places ++ flat_map (day_places t c.args.ward) (range_with_len 1 (c.loop-day.day - 1)) in
-          subst (λ z. IsPeakSoFar (census_low t c.args.cycle.now) (census_high t c.args.cycle.now) z c.with_census.result)
-          (append_assoc places (flat_map (day_places t c.args.ward) (range_with_len 1 (c.loop-day.day - 1))) (day_places t c.args.ward c.loop-day.day)
-          ∙ ap (λ z. places ++ z) (sym (next_group (day_places t c.args.ward) c.loop-day.day c.loop-day.invariant.first)))
-          (c.with_census.ensures (census_low t c.args.cycle.now) (census_high t c.args.cycle.now) so_far
-          (ap (λ z. masses_low z t.level) list) (ap (λ z. masses_high z t.level) list) (c.loop-day.invariant.peak places before));
+          day_counted t c.args.cycle.now (masses_list c.value.result.now) c.args.ward c.loop-day.day c.loop-day.peak c.with_census.result places
+          c.loop-day.invariant.first list c.with_census.ensures (c.loop-day.invariant.peak places before);
     }
