@@ -129,7 +129,8 @@ struct Walk<'a> {
 }
 
 impl Walk<'_> {
-    // The low number of the full list of the prefix, in version 2 with its floors.
+    // The beds of the ward that are always taken, and the low number of the full list of the prefix, in version 2 with its
+    // floors.
     fn low(&mut self, ward: u32, day: u32) -> u32 {
         let Walk { tables, lists, floors, prefix, value, raised, scratch, .. } = self;
         value.clear();
@@ -142,7 +143,7 @@ impl Walk<'_> {
         if let Some(floors) = floors {
             floors.push(tables, lists, prefix, &forced(tables, prefix), ward as usize, day as usize, value, raised, scratch);
         }
-        first_reaching(value, 0, tables.level) as u32
+        (tables.allow[ward as usize] + first_reaching(value, 0, tables.level)) as u32
     }
 
     fn number_fault(&mut self, number: u32, ward: u32, day: u32) -> Option<usize> {

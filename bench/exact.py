@@ -4,7 +4,8 @@ import math
 import tomllib
 from fractions import Fraction
 
-PARTS = 10**6
+# the levels that the whole has
+LEVELS = 10**6
 
 
 class Hospital:
@@ -12,17 +13,19 @@ class Hospital:
         self.folder = folder
         with open(f"{folder}/settings.toml", "rb") as file:
             self.settings = tomllib.load(file)
-        self.days = self.settings["days"]
+        self.days, self.parts = self.settings["days"], self.settings.get("parts", 10**6)
         self.rooms = list(dict.fromkeys(row[0] for row in self.rows("rooms.csv")))
         specialties = self.rows("specialties.csv")
         self.wards = list(dict.fromkeys(row[1] for row in specialties))
         self.ward_of = {row[0]: self.wards.index(row[1]) + 1 for row in specialties}
+        # the beds that are always taken, of the watched wards by their names
+        self.allow = dict.fromkeys(self.settings["watch"], 0) | dict(zip(self.settings["watch"], self.settings.get("allow", [])))
         self.patients = {name: {} for name in self.ward_of}
         for name, count, chance in self.rows("patients.csv"):
-            self.patients[name][int(count)] = Fraction(int(chance), PARTS)
+            self.patients[name][int(count)] = Fraction(int(chance), self.parts)
         self.stays = {name: [] for name in self.ward_of}
         for name, _, chance in self.rows("stays.csv"):
-            self.stays[name].append(Fraction(int(chance), PARTS))
+            self.stays[name].append(Fraction(int(chance), self.parts))
         self.cycle = [(int(day), name) for day, _, name in self.rows("cycle.csv") if name != "-"]
         self.blocks = {}
 
@@ -74,6 +77,6 @@ def percentile(distribution, level):
     total = Fraction(0)
     for count, chance in enumerate(distribution):
         total += chance
-        if total * PARTS >= level:
+        if total * LEVELS >= level:
             return count
     raise AssertionError("the chances don't sum to one")

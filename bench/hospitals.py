@@ -3,9 +3,11 @@
 The sizes `small`, `middle` and `large` are those of `mss generate`, formed anew from docs/FORMATS.md, byte for byte. The
 other sizes have the same draws with other counts, and then other minutes: in the `tight` and `full` ones the specialties
 ask for about nine tenths of all minutes, and get at most two blocks more than they ask for; in the `alike` ones the
-first rooms suit all specialties.
+first rooms suit all specialties; the `allow` ones are those of the `tight` ones in finer chances, with some beds of each ward
+always taken.
 """
 import os
+import re
 
 DAYS, ROOMS, SPECIALTIES, WARDS, BUDGET, ASKS = range(6)
 SIZES = {
@@ -19,6 +21,8 @@ SIZES = {
     "tight6": (3, 2, 3, 2, 20000, True),
     "tight8": (4, 2, 3, 2, 20000, True),
     "tight9": (3, 3, 3, 1, 20000, True),
+    "allow6": (3, 2, 3, 2, 20000, True),
+    "allow8": (4, 2, 3, 2, 20000, True),
     # of a real size
     "full-middle": (7, 3, 5, 2, 2000, True),
     "full-large": (14, 6, 8, 3, 2000, True),
@@ -30,6 +34,10 @@ SIZES = {
     "four-alike": (2, 5, 3, 2, 20000, False),
 }
 ALIKE = {"all-alike": 4, "four-alike": 4}
+# the most beds of a ward that are always taken
+ALLOW = {"allow6": 5, "allow8": 5}
+
+PARTS, FINE_PARTS = 10**6, 10**9
 
 
 class Draws:
@@ -91,7 +99,31 @@ def drawn(number, size):
             row[3:] = [480 * ask, 480 * (ask + 2)]
         units = rooms
     opened = [[f"R{room}", day, 480] for room in range(1, rooms + 1) for day in open_days(days)]
-    return texts(days, min(wards, specialties), budget, opened, units, rows)
+    files = texts(days, min(wards, specialties), budget, opened, units, rows)
+    return finer(files, rows, draws, ALLOW[size]) if size in ALLOW else files
+
+
+def finer(files, rows, draws, most):
+    """The files in finer chances, each a little beside the one that was drawn, and with beds that are always taken. The wards are
+    watched in falling order."""
+    patients, stays = [list(row) for row in rows["patients"]], [list(row) for row in rows["stays"]]
+    for at in range(0, len(patients), 3):
+        one, other, last = patients[at : at + 3]
+        for row in (one, other):
+            row[2] = max(row[2] * 1000 - draws(1000), 0)
+        last[2] = FINE_PARTS - one[2] - other[2]
+    for row in stays:
+        row[2] = FINE_PARTS if row[2] == PARTS else row[2] * 1000 + draws(1000)
+    wards = sorted({row[1] for row in rows["specialties"]}, reverse=True)
+    watch = ", ".join(f'"{ward}"' for ward in wards)
+    settings = files["settings.toml"].replace("version = 1\n", "version = 2\n")
+    settings = re.sub(r"(?m)^watch = .*$", f"watch = [{watch}]", settings)
+    settings += f"parts = {FINE_PARTS}\nallow = {[draws(most + 1) for _ in wards]}\n"
+    return files | {
+        "settings.toml": settings,
+        "patients.csv": text("specialty,patients,chance", patients),
+        "stays.csv": text("specialty,age,chance", stays),
+    }
 
 
 def even():

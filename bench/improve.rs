@@ -6,7 +6,7 @@
 // improve cycle NUMBER TRIES [once] | improve new NUMBER TRIES [once]: for each list it goes through all slots of the cycle;
 // with the word `once` through those of the ward, which it finds once for a candidate, as the planner does.
 mod plain;
-use plain::lists::{Lists, PARTS, Peak, UNIT, part, peak_of, push, steady_lists, value_of};
+use plain::lists::{LEVELS, Lists, Peak, UNIT, part, peak_of, push, steady_lists, value_of};
 use plain::report::{report, report_text};
 use plain::rules::{could_take, dead};
 use plain::tables::{Tables, cycle_text, read_cycle, read_tables};
@@ -101,9 +101,10 @@ fn differ_on(tables: &Tables, ward: usize, a: &[u8], b: &[u8]) -> bool {
     a.iter().zip(b).any(|(x, y)| x != y && (lies_on(tables, ward, *x) || lies_on(tables, ward, *y)))
 }
 
-fn lack_of(level: u64, value: &[u64], target: usize) -> u64 {
-    let goal = (level as u128 * UNIT as u128).div_ceil(PARTS as u128) as u64;
-    let total: u64 = value[..=target.min(value.len() - 1)].iter().sum();
+// What the chance of at most so many patients lacks of the level; all of it where nothing is left for patients.
+fn lack_of(level: u64, value: &[u64], left: Option<usize>) -> u64 {
+    let goal = (level as u128 * UNIT as u128).div_ceil(LEVELS as u128) as u64;
+    let total: u64 = left.map_or(0, |left| value[..=left.min(value.len() - 1)].iter().sum());
     goal.saturating_sub(total).div_ceil(1 << 20)
 }
 
@@ -136,7 +137,7 @@ impl<'a> Search<'a> {
             } else {
                 value_of(self.tables, &self.lists, ward, day, options, &mut self.value, &mut self.scratch);
             }
-            lack += lack_of(self.tables.level, &self.value, target);
+            lack += lack_of(self.tables.level, &self.value, target.checked_sub(self.tables.allow[ward]));
         }
         lack
     }

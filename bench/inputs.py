@@ -65,12 +65,15 @@ INPUTS = [
     Input("mss", ["block"], "block"),
     Input("mss", ["evaluate"], "one_block"),
     Input("mss", ["evaluate", "json"], "one_block"),
+    Input("mss", ["evaluate"], "finer"),
     Input("mss", ["plan"], "four_slots"),
+    Input("mss", ["plan"], "taken_beds"),
     Input("mss", ["plan", "alike"], "alike_rooms"),
     Input("mss", ["check"], "four_slots"),
     Input("mss", ["check", "alike"], "alike_rooms"),
     Input("mss", ["generate", "7", "small"], "four_slots"),
     Input("mss_improve", ["cycle", "1", "50"], "one_block"),
+    Input("mss_improve", ["cycle", "1", "50"], "two_wards"),
     Input("mss_improve", ["new", "7", "20"], "four_slots"),
 ]
 if HAS_WEIGHTS:

@@ -4,7 +4,7 @@
 //
 // lower | lower check
 mod plain;
-use plain::lists::steady_lists;
+use plain::lists::{Lists, steady_lists};
 use plain::tables::{Tables, read_tables};
 use plain::weights::{Weights, check, least_reach, most_blocks, needed_blocks, open_slots, pays, read_weights, weight_rows, write_weights};
 
@@ -53,6 +53,8 @@ struct Finder<'a> {
     // by specialty and day
     costs: Vec<u64>,
     blocks: Vec<u64>,
+    // what the beds weigh that are always taken, by ward and day
+    beds: Vec<u64>,
 }
 
 fn times(price: u64, count: u64) -> u64 {
@@ -84,6 +86,7 @@ impl<'a> Finder<'a> {
             pulls: vec![0; wards * days],
             costs: vec![0; count * days],
             blocks: vec![0; count * days],
+            beds: vec![0; wards * days],
         }
     }
 
@@ -195,6 +198,21 @@ impl<'a> Finder<'a> {
         }
     }
 
+    // Weighs the beds that are always taken, above those of the watched ward with the fewest. Those of a ward don't count
+    // where its needed blocks don't come to the reach, since these show nothing above its beds then.
+    fn weigh_beds(&mut self, rows: &[Vec<u32>], power: u32, reach: u32) {
+        let (t, days) = (self.tables, self.tables.days);
+        let fewest = (1..=t.wards.len()).filter(|ward| t.watched[*ward]).map(|ward| t.allow[ward]).min().unwrap_or(0);
+        self.deal_all();
+        self.use_all(rows);
+        for ward in 1..=t.wards.len() {
+            let of_ward = (ward - 1) * days..ward * days;
+            let is_heavy = total(self.uses.places[of_ward.clone()].iter().copied()) >= u64::from(reach) * days as u64;
+            let beds = if is_heavy { t.allow[ward].saturating_sub(fewest) as u64 } else { 0 };
+            self.beds[of_ward].fill(u64::from(power) * beds);
+        }
+    }
+
     // How far the weights of a needed block are from their mean, all offsets together.
     fn mean_spread(&self, rows: &[Vec<u32>]) -> u64 {
         let whole = total(self.needed.iter().copied()).max(1);
@@ -207,6 +225,9 @@ impl<'a> Finder<'a> {
             *sum = sum.saturating_add(times(round, *price));
         }
         self.use_all(rows);
+        for (used, beds) in self.uses.places.iter_mut().zip(&self.beds) {
+            *used = used.saturating_add(*beds);
+        }
         self.pull(round);
         self.adjust(step / (round + 32));
         self.share_out();
@@ -214,11 +235,12 @@ impl<'a> Finder<'a> {
     }
 
     // Goes so many rounds, and takes the mean of their prices, where a later round counts more. Gives what the needed blocks
-    // cost at it above what slots and kinds are worth.
-    fn rounds(&mut self, rows: &[Vec<u32>], count: u64) -> u64 {
+    // and the beds that are always taken cost at it above what slots and kinds are worth.
+    fn rounds(&mut self, rows: &[Vec<u32>], power: u32, reach: u32, count: u64) -> u64 {
         self.begin();
         self.share_out();
         self.price_blocks(rows);
+        self.weigh_beds(rows, power, reach);
         let step = times(self.prices.places.iter().copied().max().unwrap_or(0), 2 * self.mean_spread(rows));
         for round in 1..=count {
             self.round(rows, round, step);
@@ -228,7 +250,16 @@ impl<'a> Finder<'a> {
             *price = *sum / whole;
         }
         self.price_blocks(rows);
-        self.deal_all()
+        let beds = total(self.prices.places.iter().zip(&self.beds).map(|(price, beds)| times(*price, *beds)));
+        self.deal_all().saturating_add(beds)
+    }
+
+    // The price 1 for one day of the first ward with so great an allowance, and no other prices.
+    fn price_beds(&mut self, beds: usize) {
+        self.prices.all_mut().for_each(|price| *price = 0);
+        if let Some(ward) = (1..=self.tables.wards.len()).find(|ward| self.tables.allow[*ward] == beds) {
+            self.prices.places[(ward - 1) * self.tables.days] = 1;
+        }
     }
 
     // Brings the prices to nine digits, and gives the best prices of blocks to them.
@@ -261,15 +292,11 @@ fn greatest(t: &Tables, rows: &[Vec<u32>], weights: &mut Weights) -> u32 {
     low
 }
 
-fn find(t: &Tables) -> Option<Weights> {
-    let (lists, mut finder) = (steady_lists(t), Finder::make(t));
-    let reach = least_reach(t.level)?;
-    if finder.needed.iter().all(|blocks| *blocks == 0) {
-        return None;
-    }
+// The power with which a few rounds come to the greatest number.
+fn best_power(finder: &mut Finder, lists: &Lists, reach: u32) -> u32 {
     let (mut most, mut power, mut tried) = (0, 0, FIRST_POWER);
     for _ in 0..POWERS {
-        let value = finder.rounds(&weight_rows(&lists, tried), SHORT_ROUNDS);
+        let value = finder.rounds(&weight_rows(lists, tried), tried, reach, SHORT_ROUNDS);
         // the number in thousandths
         let number = (times(value, 1000) / PLACES).saturating_sub(1000 * u64::from(reach)) / u64::from(tried);
         if number > most {
@@ -277,12 +304,33 @@ fn find(t: &Tables) -> Option<Weights> {
         }
         tried = tried * 6 / 5;
     }
-    let rows = weight_rows(&lists, power);
-    finder.rounds(&rows, LONG_ROUNDS);
-    let blocks = short(&finder.shorten(&rows));
+    power
+}
+
+// The weights of a finder's prices, with the greatest number that they show.
+fn weights_of(finder: &mut Finder, rows: &[Vec<u32>], power: u32, reach: u32) -> Weights {
+    let blocks = short(&finder.shorten(rows));
     let Prices { places, slots, kinds } = &finder.prices;
     let mut weights = Weights { number: 0, power, reach, places: short(places), blocks, slots: short(slots), kinds: short(kinds) };
-    weights.number = greatest(t, &rows, &mut weights);
+    weights.number = greatest(finder.tables, rows, &mut weights);
+    weights
+}
+
+fn find(t: &Tables) -> Option<Weights> {
+    let (lists, mut finder) = (steady_lists(t), Finder::make(t));
+    let reach = least_reach(t.level)?;
+    let beds = t.allow.iter().copied().max().unwrap_or(0);
+    if finder.needed.iter().any(|blocks| *blocks > 0) {
+        let power = best_power(&mut finder, &lists, reach);
+        let rows = weight_rows(&lists, power);
+        finder.rounds(&rows, power, reach, LONG_ROUNDS);
+        let weights = weights_of(&mut finder, &rows, power, reach);
+        if weights.number as usize >= beds {
+            return (weights.number > 0).then_some(weights);
+        }
+    }
+    finder.price_beds(beds);
+    let weights = weights_of(&mut finder, &weight_rows(&lists, 0), 0, reach);
     (weights.number > 0).then_some(weights)
 }
 

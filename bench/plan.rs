@@ -177,7 +177,8 @@ impl<'a> Bounder<'a> {
         if self.floors.is_some() { forced(self.tables, prefix) } else { vec![] }
     }
 
-    // The low number at a place, over a carried list and the list that an option adds to it.
+    // The beds that are taken at a place at least: those that always are, and the low number of a carried list with the list
+    // that an option adds to it and its floors.
     fn low(&mut self, prefix: &[u8], forced: &[u32], at: usize, part: Option<(usize, u8)>) -> u32 {
         let Bounder { tables, lists, spots, carried, working, how, floors, value, raised, scratch, .. } = self;
         let held = if *how == How::Empty { &working.lists } else { &carried[0].lists };
@@ -190,7 +191,7 @@ impl<'a> Bounder<'a> {
         if let Some(floors) = floors {
             floors.push(tables, lists, prefix, forced, ward, day, value, raised, scratch);
         }
-        first_reaching(value, 0, tables.level) as u32
+        (tables.allow[ward] + first_reaching(value, 0, tables.level)) as u32
     }
 
     // The low numbers of the child whose last slot is idle, which has the lists of its parent.

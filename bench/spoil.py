@@ -6,19 +6,25 @@ TABLE_LIMIT, CERTIFICATE_LIMIT = 4_194_304, 67_108_864
 # what a cell, a value or a word may be
 CELLS = [
     b"", b"-", b"0", b"00", b"1", b"2", b"16", b"17", b"24", b"25", b"28", b"29", b"59", b"60", b"480", b"1000", b"1001", b"1440",
-    b"1441", b"999999", b"1000000", b"1000001", b"0000000001", b"00000000001", b"4294967295", b"4294967296", b"9999999999",
-    b"18446744073709551616", b"-1", b"+1", b" 1", b"1 ", b"1.0", b"1e3", b"0x1", b"\xef\xbc\x91", b"x", b"X", b"S1", b"W1", b"R1",
+    b"1441", b"999999", b"1000000", b"1000001", b"1000000000", b"1000000001", b"0000000001", b"00000000001", b"4294967295",
+    b"4294967296", b"9999999999", b"18446744073709551616", b"-1", b"+1", b" 1", b"1 ", b"1.0", b"1e3", b"0x1", b"\xef\xbc\x91", b"x", b"X", b"S1", b"W1", b"R1",
     b"A", b"Main", b"Scope", b"x" * 60, b"x" * 61, b"\xc3\xa4" * 30, b"\xff", b"\x00", b"\x7f", b"\x1f", b"a\x00b", b'"', b'""',
     b'"a', b'"a"', b'"a,b"', b'"a\nb"', b'a"b', b"\xef\xbb\xbf", b"=1+1", b"patients", b"stay", b"\r", b"\t",
 ]
 VALUES = [
-    b"", b"0", b"1", b"2", b"7", b"28", b"29", b"-1", b"999999", b"1000000", b"20000", b"20001", b"9223372036854775807",
+    b"", b"0", b"1", b"2", b"7", b"28", b"29", b"-1", b"999999", b"1000000", b"1000000000", b"1000", b"20000", b"20001",
+    b"9223372036854775807",
     b"9223372036854775808", b"1.5", b"1e6", b"nan", b"inf", b"true", b'"1"', b"'W1'", b'"W1"', b"[]", b"[500000]", b"[0]",
-    b"[1000000]", b"[500000, 900000]", b"[1, 2, 3, 4, 5, 6, 7, 8]", b"[1, 2, 3, 4, 5, 6, 7, 8, 9]", b'["W1"]', b'["Main"]',
+    b"[1000000]", b"[3]", b"[3, 0]", b"[1000]", b"[1001]", b"[-1]", b"[500000, 900000]",
+    b"[1, 2, 3, 4, 5, 6, 7, 8]", b"[1, 2, 3, 4, 5, 6, 7, 8, 9]", b'["W1"]', b'["Main"]',
     b'["W1", "W1"]', b'["W1", "W2"]', b'["Nowhere"]', b'[1, "a"]', b"[[1]]", b"{a = 1}", b"1979-05-27", b"07:32:00", b"0x1C",
     b"0b11100", b"1_000", b"+7", b'"""a"""', b'"\\u00e9"', b'"\\ud800"', b'"\\e"', b"[" * 200, b"{a=" * 200, b"a.b.c = 1",
 ]
-KEYS = [b"version", b"days", b"level", b"report", b"watch", b"budget", b"parts", b'"days"', b"'level'", b"a.b", b"", b"days.a", b"[days]"]
+KEYS = [
+    b"version", b"days", b"level", b"report", b"watch", b"budget", b"parts", b"allow", b'"days"', b"'level'", b"a.b", b"", b"days.a", b"[days]",
+]
+# keys of version 2 with values, behind a file
+FINER = [b"parts = 1000000\n", b"parts = 1000000000\n", b"parts = 1000000000\nallow = [3]\n", b"parts = 1000000\nallow = [0, 2]\n"]
 WEIGHTS_LINES = [
     b"mss weights 1", b"mss weights 2", b"number 2 power 3000 reach 2839", b"number 0 power 3000 reach 2839",
     b"number 1 power 131072 reach 131072", b"number 1 power 131073 reach 0", b"number 999999999 power 999999999 reach 999999999",
@@ -117,6 +123,12 @@ def change_setting(content, draws):
     return b"\n".join(lines)
 
 
+def change_settings_version(content, draws):
+    """Settings of version 2, with the chances as they stand or not."""
+    content = content.replace(b"version = 1", b"version = 2", 1)
+    return content if b"parts" in content else content + pick(draws, FINER)
+
+
 def change_line(content, draws):
     """Another line of a certificate, or a line more."""
     return another_line(content, draws, LINES)
@@ -213,7 +225,7 @@ def change_all(content, draws):
 
 ANY = [change_bytes, change_ends, change_all, change_order]
 TABLE = [change_cell, change_cell, change_number, change_number, change_number, change_columns, *ANY]
-SETTINGS = [change_setting, change_setting, change_setting, *ANY]
+SETTINGS = [change_setting, change_setting, change_setting, change_settings_version, *ANY]
 CERTIFICATE = [change_version, change_line, change_word, change_word, change_word, *ANY]
 WEIGHTS = [change_weights_line, change_word, change_word, change_word, *ANY]
 

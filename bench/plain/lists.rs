@@ -3,7 +3,8 @@ use super::tables::Tables;
 use std::cell::Cell;
 
 pub const UNIT: u64 = 1 << 60;
-pub const PARTS: u64 = 1_000_000;
+// the levels that the whole has
+pub const LEVELS: u64 = 1_000_000;
 
 thread_local! {
     // how often `convolve` was called
@@ -82,14 +83,14 @@ pub fn push_full(value: &mut Vec<u64>, part: &[u64], raised: &mut Vec<u64>, scra
     value[0] += rest(value);
 }
 
-fn thinned(kept: &[u64], stay: u64) -> Vec<u64> {
+fn thinned(parts: u64, kept: &[u64], stay: u64) -> Vec<u64> {
     let mut rows = vec![vec![UNIT]];
     for k in 1..kept.len() {
         let before = &rows[k - 1];
         let at = |x: usize| before.get(x).copied().unwrap_or(0) as u128;
         rows.push((0..=k).map(|x| {
             let here = if x == 0 { 0 } else { stay as u128 * at(x - 1) };
-            ((here + (PARTS - stay) as u128 * at(x)) / PARTS as u128) as u64
+            ((here + (parts - stay) as u128 * at(x)) / parts as u128) as u64
         }).collect());
     }
     (0..kept.len()).map(|x| {
@@ -100,9 +101,10 @@ fn thinned(kept: &[u64], stay: u64) -> Vec<u64> {
 
 // The lists of a block by age.
 fn ages_of(tables: &Tables, j: usize) -> Vec<Vec<u64>> {
-    let mut ages = vec![tables.patients[j].iter().map(|c| (*c as u128 * UNIT as u128 / PARTS as u128) as u64).collect::<Vec<_>>()];
+    let parts = tables.parts;
+    let mut ages = vec![tables.patients[j].iter().map(|c| (*c as u128 * UNIT as u128 / parts as u128) as u64).collect::<Vec<_>>()];
     for n in 1..tables.stays[j].len() {
-        let next = thinned(&ages[n - 1], PARTS - tables.stays[j][n - 1]);
+        let next = thinned(parts, &ages[n - 1], parts - tables.stays[j][n - 1]);
         ages.push(next);
     }
     ages
@@ -138,7 +140,7 @@ pub fn all_lists(tables: &Tables) -> Quantities {
     let (mut census, mut admissions, mut discharges, mut scratch) = (vec![vec![]], vec![vec![]], vec![vec![]], vec![]);
     for j in 0..tables.specialties.len() {
         let ages = ages_of(tables, j);
-        let leaving: Vec<_> = ages.iter().zip(&tables.stays[j]).map(|(kept, chance)| thinned(kept, *chance)).collect();
+        let leaving: Vec<_> = ages.iter().zip(&tables.stays[j]).map(|(kept, chance)| thinned(tables.parts, kept, *chance)).collect();
         census.push(by_offset(tables.days, &ages, &mut scratch));
         admissions.push(vec![ages[0].clone()]);
         discharges.push(by_offset(tables.days, &leaving, &mut scratch));
@@ -166,7 +168,7 @@ pub fn value_of(tables: &Tables, lists: &Lists, ward: usize, day: usize, options
 }
 
 pub fn first_reaching(list: &[u64], start: u64, level: u64) -> usize {
-    let goal = (level as u128 * UNIT as u128).div_ceil(1_000_000) as u64;
+    let goal = (level as u128 * UNIT as u128).div_ceil(LEVELS as u128) as u64;
     let mut total = start;
     for (x, kept) in list.iter().enumerate() {
         total += kept;
@@ -186,9 +188,10 @@ pub struct Peak {
 }
 
 impl Peak {
-    // One more place, in order.
+    // One more place, in order, with the beds of the ward that are always taken.
     pub fn take(&mut self, tables: &Tables, value: &[u64], ward: usize, day: usize) {
-        let (low, high) = (first_reaching(value, rest(value), tables.level), first_reaching(value, 0, tables.level));
+        let allow = tables.allow[ward];
+        let (low, high) = (allow + first_reaching(value, rest(value), tables.level), allow + first_reaching(value, 0, tables.level));
         self.low = self.low.max(low);
         if self.ward == 0 || high > self.high {
             (self.high, self.ward, self.day) = (high, ward, day);

@@ -1,5 +1,5 @@
 // The report of a cycle, as text and as JSON.
-use super::lists::{Lists, PARTS, Peak, UNIT, all_lists, first_reaching, rest, value_of};
+use super::lists::{Lists, Peak, UNIT, all_lists, first_reaching, rest, value_of};
 use super::tables::Tables;
 use std::fmt::Write as _;
 
@@ -19,6 +19,8 @@ pub struct Report {
 
 const QUANTITIES: [&str; 3] = ["census", "admissions", "discharges"];
 const PLACES: u128 = 1_000_000_000_000;
+// of a mean
+const MILLIONTHS: u64 = 1_000_000;
 
 fn figures(tables: &Tables, value: &[u64]) -> Figures {
     let rest = rest(value);
@@ -33,7 +35,7 @@ fn figures(tables: &Tables, value: &[u64]) -> Figures {
         points.push((x, value[x], value[x] + rest, total, total + rest));
     }
     Figures {
-        mean: ((moment * PARTS as u128 / unit) as u64, (most * PARTS as u128).div_ceil(unit) as u64),
+        mean: ((moment * MILLIONTHS as u128 / unit) as u64, (most * MILLIONTHS as u128).div_ceil(unit) as u64),
         pairs: tables.levels.iter().map(|v| (*v, first_reaching(value, rest, *v), first_reaching(value, 0, *v))).collect(),
         points,
     }
@@ -68,7 +70,7 @@ fn decimal(text: &mut String, value: u64, up: bool) {
 }
 
 fn mean(text: &mut String, value: u64) {
-    write!(text, "{}.{:06}", value / PARTS, value % PARTS).unwrap();
+    write!(text, "{}.{:06}", value / MILLIONTHS, value % MILLIONTHS).unwrap();
 }
 
 fn figures_text(text: &mut String, day: usize, name: &str, f: &Figures) {

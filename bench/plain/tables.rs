@@ -3,6 +3,8 @@ use std::collections::HashMap;
 
 pub struct Tables {
     pub days: usize,
+    // of the chances
+    pub parts: u64,
     pub rooms: Vec<Vec<u8>>,
     pub minutes: Vec<u32>,
     pub wards: Vec<Vec<u8>>,
@@ -25,6 +27,7 @@ pub struct Tables {
     pub levels: Vec<u64>,
     // by ward; nothing at 0
     pub watched: Vec<bool>,
+    pub allow: Vec<usize>,
     pub budget: u32,
 }
 
@@ -122,9 +125,10 @@ fn list_of(text: &str) -> Vec<String> {
 
 pub fn read_tables() -> Tables {
     let settings = std::fs::read_to_string("settings.toml").unwrap();
-    let value = |key: &str| {
-        settings.lines().find_map(|l| l.strip_prefix(key)?.trim_start().strip_prefix('=')).unwrap().trim().to_string()
+    let found = |key: &str| {
+        settings.lines().find_map(|l| l.strip_prefix(key)?.trim_start().strip_prefix('=')).map(|value| value.trim().to_string())
     };
+    let value = |key: &str| found(key).unwrap();
     let days: usize = value("days").parse().unwrap();
     let (mut rooms, mut wards, mut specialties, mut kinds) = (Numbered::default(), Numbered::default(), Numbered::default(), Numbered::default());
 
@@ -177,12 +181,16 @@ pub fn read_tables() -> Tables {
     for row in records("barred.csv") {
         barred[(specialties.places[&row[0]] - 1) * days + number(&row[1]) as usize - 1] = true;
     }
-    let mut watched = vec![false; wards.names.len() + 1];
-    for name in list_of(&value("watch")) {
-        watched[wards.places[name.as_bytes()]] = true;
+    let (mut watched, mut allow) = (vec![false; wards.names.len() + 1], vec![0; wards.names.len() + 1]);
+    let allowances = found("allow").map_or(vec![], |list| list_of(&list));
+    for (at, name) in list_of(&value("watch")).iter().enumerate() {
+        let ward = wards.places[name.as_bytes()];
+        watched[ward] = true;
+        allow[ward] = allowances.get(at).map_or(0, |beds| beds.parse().unwrap());
     }
     Tables {
         days,
+        parts: found("parts").map_or(1_000_000, |parts| parts.parse().unwrap()),
         rooms: rooms.names,
         minutes,
         wards: wards.names,
@@ -201,6 +209,7 @@ pub fn read_tables() -> Tables {
         level: value("level").parse().unwrap(),
         levels: list_of(&value("report")).iter().map(|s| s.parse().unwrap()).collect(),
         watched,
+        allow,
         budget: value("budget").parse().unwrap(),
     }
 }

@@ -94,8 +94,14 @@ fn place_price(t: &Tables, w: &Weights, ward: usize, day: usize) -> u128 {
     if t.watched[ward] { at(&w.places, (ward - 1) * t.days + day - 1) } else { 0 }
 }
 
-fn all_places(t: &Tables, w: &Weights) -> u128 {
-    (1..=t.wards.len()).map(|ward| (1..=t.days).map(|day| place_price(t, w, ward, day)).sum::<u128>()).sum()
+fn ward_price(t: &Tables, w: &Weights, ward: usize) -> u128 {
+    (1..=t.days).map(|day| place_price(t, w, ward, day)).sum()
+}
+
+// The load from which on a ward peaks at the number, with its allowance beside the patients: 0 where that alone does.
+fn ward_load(t: &Tables, w: &Weights, ward: usize) -> u128 {
+    let patients = (w.number - 1).checked_sub(t.allow[ward] as u32);
+    patients.map_or(0, |patients| u128::from(w.power) * u128::from(patients) + u128::from(w.reach))
 }
 
 fn worth(t: &Tables, w: &Weights) -> u128 {
@@ -124,9 +130,10 @@ fn spent(t: &Tables, rows: &[Vec<u32>], w: &Weights) -> u128 {
 
 // Whether the prices show the number, where the powers are within their limits.
 pub fn pays(t: &Tables, rows: &[Vec<u32>], w: &Weights) -> bool {
-    let places = all_places(t, w);
-    let load = u64::from(w.power) * u64::from(w.number - 1) + u64::from(w.reach);
-    places * u128::from(load) + spent(t, rows, w) < worth(t, w) + places
+    let wards = 1..=t.wards.len();
+    let places: u128 = wards.clone().map(|ward| ward_price(t, w, ward)).sum();
+    let loads: u128 = wards.map(|ward| ward_price(t, w, ward) * ward_load(t, w, ward)).sum();
+    loads + spent(t, rows, w) < worth(t, w) + places
 }
 
 // Whether a certificate shows its number.

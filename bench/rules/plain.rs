@@ -37,6 +37,7 @@ fn tables(seed: u64, apart: bool, uneven: bool) -> Tables {
     let first = below(next(seed), 4);
     Tables {
         days: DAYS,
+        parts: 1_000_000,
         rooms: vec![vec![]; ROOMS],
         minutes,
         wards: vec![vec![]],
@@ -55,6 +56,7 @@ fn tables(seed: u64, apart: bool, uneven: bool) -> Tables {
         level: 900_000,
         levels: vec![500_000],
         watched: vec![false, true],
+        allow: vec![0, 0],
         budget: 1000,
     }
 }
