@@ -169,9 +169,11 @@ def _of_prefix(certificate: Certificate, reason: str, where: str, here: str) -> 
             )
         case "BoundLow":
             *words, number, ward, day = certificate.text.split(" ")
+            allowance = hospital.allowance(hospital.wards[int(ward) - 1])
+            beside = f", beside its {allowance} beds that are always taken" if allowance else ""
             rule = (
                 "NUMBER is at most the percentile that the census of WARD on DAY has already for the prefix, in version 2"
-                " with the blocks that must still come"
+                f" with the blocks that must still come{beside}"
             )
             lower = certificate.write(" ".join([*words, str(max(int(number) - 1, 0)), ward, day]))
             return Explanation(

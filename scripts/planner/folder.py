@@ -7,7 +7,7 @@ from collections.abc import Iterator
 from dataclasses import dataclass
 
 from planner.command import Refused
-from planner.formats import SETTINGS
+from planner.formats import FINE_PARTS, PARTS, SETTINGS
 
 csv.field_size_limit(1 << 30)
 
@@ -87,6 +87,11 @@ class Folder:
             return tomllib.loads(self.text(SETTINGS))
         except (tomllib.TOMLDecodeError, UnicodeError) as error:
             raise Refused(f"{SETTINGS}: {error}") from None
+
+    @property
+    def parts(self) -> int:
+        """The parts of the chances of patients.csv and stays.csv."""
+        return FINE_PARTS if self.settings().get("parts") == FINE_PARTS else PARTS
 
     @property
     def rooms(self) -> list[str]:

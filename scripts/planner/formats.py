@@ -1,7 +1,12 @@
 """The files, faults, rules and reasons of docs/FORMATS.md, as data."""
 from dataclasses import dataclass
 
+# the parts of chances: those of version 1, and the finer ones that version 2 may have
 PARTS = 1_000_000
+FINE_PARTS = 1_000_000_000
+# the millionths of a level
+LEVELS = 1_000_000
+MOST_ALLOWANCE = 1_000
 LONGEST_TABLE = 4_194_304
 LONGEST_CERTIFICATE = 67_108_864
 LONGEST_WEIGHTS = 1_048_576
@@ -17,8 +22,9 @@ BLOCK = "block.csv"
 CERTIFICATE = "certificate.txt"
 WEIGHTS = "weights.txt"
 
-# the days of the settings, as the most of a field
+# the days and the parts of the settings, as the most of a field
 DAYS = -1
+CHANCE = -2
 
 
 @dataclass(frozen=True)
@@ -49,7 +55,7 @@ def _named(name: str, *, known: bool = True) -> Field:
 
 
 _DAY = Field("day", "number", 1, DAYS)
-_CHANCE = Field("chance", "number", 0, PARTS)
+_CHANCE = Field("chance", "number", 0, CHANCE)
 _UNITS = Field("units", "number", 0, 1_000)
 _SLOTS = Table((_DAY, _named("room"), Field("specialty", "option", must_be_known=True)), (0, 1))
 
@@ -72,14 +78,22 @@ TABLES = {
     "unsuited.csv": Table((_named("specialty"), _named("room")), (0, 1)),
     "fixed.csv": _SLOTS,
     "barred.csv": Table((_named("specialty"), _DAY), (0, 1)),
-    BLOCK: Table((Field("kind", "word"), Field("number", "number", 0, MOST_AGE), _CHANCE), (0, 1)),
+    BLOCK: Table(
+        (Field("kind", "word"), Field("number", "number", 0, MOST_AGE), Field("chance", "number", 0, PARTS)), (0, 1)
+    ),
     CYCLE: _SLOTS,
 }
 BLOCK_WORDS = ("patients", "stay")
 
-# the settings by their items, with a value that can stand for one that is missing
-SETTING_KEYS = ["version", "days", "level", "report", "watch", "budget"]
-SETTING_TYPES = ["an integer", "an integer", "an integer", "an array of integers", "an array of strings", "an integer"]
+# the settings by their items, those of version 2 alone at the end, with a value that can stand for one that is missing
+FIRST_KEYS = ["version", "days", "level", "report", "watch", "budget"]
+LATER_KEYS = ["parts", "allow"]
+SETTING_KEYS = [*FIRST_KEYS, *LATER_KEYS]
+SETTING_TYPES = {key: "an integer" for key in SETTING_KEYS} | {
+    "report": "an array of integers",
+    "watch": "an array of strings",
+    "allow": "an array of integers",
+}
 SETTING_SAMPLES = {
     "version": 1,
     "days": 14,

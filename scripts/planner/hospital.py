@@ -3,7 +3,7 @@ from dataclasses import dataclass
 
 from planner.command import Refused
 from planner.folder import Folder
-from planner.formats import CYCLE, IDLE
+from planner.formats import CYCLE, IDLE, PARTS
 
 # what a slot holds: a specialty, or nothing where it is idle
 Option = str | None
@@ -50,6 +50,16 @@ class Hospital:
     @property
     def days(self) -> int:
         return self.settings["days"]
+
+    @property
+    def parts(self) -> int:
+        """The parts of its chances."""
+        return self.settings.get("parts", PARTS)
+
+    def allowance(self, ward: str) -> int:
+        """The beds of a ward that are always taken."""
+        allow = self.settings.get("allow", [])
+        return dict(zip(self.settings["watch"], allow)).get(ward, 0)
 
     @property
     def rooms(self) -> list[str]:

@@ -3,7 +3,7 @@ import difflib
 import re
 from fractions import Fraction
 
-from planner.formats import IDLE, LONGEST_NAME, PARTS, Field
+from planner.formats import IDLE, LONGEST_NAME, Field
 
 WEEKDAYS = ["mon", "tue", "wed", "thu", "fri", "sat", "sun"]
 
@@ -55,8 +55,8 @@ def _decimal(word: str, column: Field) -> int | None:
     if column.name != "chance":
         return round(value)
     if found[2]:
-        return round(value * PARTS / 100)
-    return round(value * PARTS) if value <= 1 else round(value)
+        return round(value * column.most / 100)
+    return round(value * column.most) if value <= 1 else round(value)
 
 
 def number_meant(word: str, column: Field) -> int | None:

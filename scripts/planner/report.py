@@ -41,6 +41,15 @@ class Report:
         return len(self.wards[0].days)
 
     @property
+    def allowance(self) -> int | None:
+        """The beds of the peak's ward that are always taken: those of the peak beside the patients of its day. None where the
+        level of the peak isn't reported."""
+        for pair in self.wards[self.peak.ward - 1].days[self.peak.day - 1]:
+            if pair.level == self.level:
+                return self.peak.high - pair.high
+        return None
+
+    @property
     def levels(self) -> list[int]:
         return [pair.level for pair in self.wards[0].days[0]]
 

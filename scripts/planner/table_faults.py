@@ -9,7 +9,9 @@ from planner.folder import Folder, Record, csv_line
 from planner.formats import (
     BLOCK,
     BLOCK_WORDS,
+    CHANCE,
     DAYS,
+    FINE_PARTS,
     IDLE,
     LONGEST_TABLE,
     MOST_NAMES,
@@ -20,6 +22,7 @@ from planner.formats import (
     Field,
 )
 from planner.meant import clean_name, is_number, name_fault, nearest, number_meant
+from planner.setting_faults import finer_settings
 from planner.stays import of_those_there
 
 
@@ -46,12 +49,19 @@ class TableFault:
     def where(self) -> str:
         return place_of(self.file, self.record)
 
+    @property
+    def parts(self) -> int:
+        """The parts of the file's chances."""
+        return PARTS if self.file == BLOCK else self.folder.parts
+
     def lines(self) -> list[str]:
         return self.folder.text(self.file).splitlines()
 
     def column(self, place: int) -> Field:
-        """A column, with the most of the day from the settings, and of the number by the word of block.csv."""
+        """A column, with the most of the day and of a chance from the settings, and of the number by the word of block.csv."""
         column = self.table.columns[place]
+        if column.most == CHANCE:
+            return Field(column.name, column.holds, column.least, self.parts)
         if column.most == DAYS:
             return Field(column.name, column.holds, column.least, self.folder.settings()["days"])
         if self.file == BLOCK and column.name == "number" and self.fields[0] == BLOCK_WORDS[0]:
@@ -180,7 +190,7 @@ def number(fault: TableFault) -> Explanation:
     column, word = fault.column(place), fault.fields[place]
     meant = number_meant(word, column)
     filled = _usual(fault, place) if meant is None else str(min(max(meant, column.least), column.most))
-    unit = " It is in parts of a million: 40% is 400000." if column.name == "chance" else ""
+    unit = f" It is in parts of {whole_of(fault)}: 40% is {fault.parts * 4 // 10}." if column.name == "chance" else ""
     return Explanation(
         fault.where,
         f"{column.name} is a whole number of 1 to 10 digits: no sign, point, comma, blank or unit",
@@ -188,6 +198,18 @@ def number(fault: TableFault) -> Explanation:
         f"write {column.name} in digits alone, from {column.least} to {column.most}.{unit}",
         fault.set(place, filled),
     )
+
+
+def whole_of(fault: TableFault) -> str:
+    return "a million" if fault.parts == PARTS else "a thousand million"
+
+
+def _is_finer(fault: TableFault) -> bool:
+    """Whether the chances of the record's specialty are in finer parts than the settings say."""
+    if fault.parts == FINE_PARTS or fault.file not in ("patients.csv", "stays.csv"):
+        return False
+    chances = [int(it.fields[2]) for it in fault.same(before=False)]
+    return FINE_PARTS in (sum(chances), chances[-1])
 
 
 def range_of(fault: TableFault) -> Explanation:
@@ -202,6 +224,14 @@ def range_of(fault: TableFault) -> Explanation:
     place = fault.first(is_outside)
     column, value = fault.column(place), int(fault.fields[place])
     most = f"{column.most}, the days of settings.toml" if column.name == "day" else str(column.most)
+    if column.name == "chance" and _is_finer(fault):
+        return Explanation(
+            fault.where,
+            f"{column.name} is from {column.least} to {most}",
+            f"{column.name} is {value}, in parts of {FINE_PARTS}",
+            f"write version = 2 and parts = {FINE_PARTS} into settings.toml",
+            finer_settings(fault.folder),
+        )
     return Explanation(
         fault.where,
         f"{column.name} is from {column.least} to {most}",
@@ -334,11 +364,11 @@ def _rewritten(fault: TableFault, records: list[Record], chances: list[int]) -> 
     return whole(fault.file, lines)
 
 
-def _scaled(chances: list[int]) -> list[int]:
+def _scaled(chances: list[int], whole: int) -> list[int]:
     """Chances that sum to the whole, in proportion to these."""
     total = max(sum(chances), 1)
-    parts = [chance * PARTS // total for chance in chances]
-    parts[parts.index(max(parts))] += PARTS - sum(parts)
+    parts = [chance * whole // total for chance in chances]
+    parts[parts.index(max(parts))] += whole - sum(parts)
     return parts
 
 
@@ -346,49 +376,63 @@ def _percent(
     fault: TableFault, records: list[Record], chances: list[int], where: str, rule: str, here: str
 ) -> Explanation:
     """Chances that were written in percent."""
-    change = _rewritten(fault, records, [it * 10_000 for it in chances])
-    return Explanation(where, rule, f"{here}: percent?", "10000 parts are one percent", change)
+    percent = fault.parts // 100
+    change = _rewritten(fault, records, [it * percent for it in chances])
+    return Explanation(where, rule, f"{here}: percent?", f"{percent} parts are one percent", change)
+
+
+def _millionths(
+    fault: TableFault, records: list[Record], chances: list[int], where: str, rule: str, here: str
+) -> Explanation:
+    """Chances in millionths where the settings say finer parts."""
+    change = _rewritten(fault, records, [it * (FINE_PARTS // PARTS) for it in chances])
+    mend = f"times 1000 they are in parts of {FINE_PARTS}; or let settings.toml have parts = {PARTS}"
+    return Explanation(where, rule, f"{here}: millionths?", mend, change)
 
 
 def chance_sum(fault: TableFault) -> Explanation:
     owner, records = _owner(fault, BLOCK_WORDS[0])
-    chances = [int(it.fields[2]) for it in records]
+    chances, whole = [int(it.fields[2]) for it in records], fault.parts
     total = sum(chances)
-    rule = f"the chances of {owner} over all numbers of patients sum to 1000000, since one of them always comes"
+    rule = f"the chances of {owner} over all numbers of patients sum to {whole}, since one of them always comes"
     where, here = (
         f"{fault.file}, the records of {owner}",
         f"they are {', '.join(map(str, chances)) or 'none'}, which is {total} together",
     )
     if not records:
-        change = Change(fault.file, "add", len(fault.lines()), csv_line([owner, "1", str(PARTS)]))
+        change = Change(fault.file, "add", len(fault.lines()), csv_line([owner, "1", str(whole)]))
         return Explanation(where, rule, here, "add a record for each number of patients that a block can have", change)
-    if total == PARTS:
+    if total == whole:
         raise Unlike
     if total == 100:
         return _percent(fault, records, chances, where, rule, here)
+    if total == PARTS:
+        return _millionths(fault, records, chances, where, rule, here)
     largest = max(records, key=lambda it: int(it.fields[2]))
-    value, missing = int(largest.fields[2]) + PARTS - total, PARTS - total
+    value, missing = int(largest.fields[2]) + whole - total, whole - total
     mend = f"{'add' if missing > 0 else 'take'} {abs(missing)} {'to' if missing > 0 else 'from'} some of them"
-    if 0 <= value <= PARTS and 2 * abs(missing) < PARTS:
+    if 0 <= value <= whole and 2 * abs(missing) < whole:
         return Explanation(where, rule, here, mend, write(fault.file, largest, [*largest.fields[:2], str(value)]))
-    return Explanation(where, rule, here, mend, _rewritten(fault, records, _scaled(chances)))
+    return Explanation(where, rule, here, mend, _rewritten(fault, records, _scaled(chances, whole)))
 
 
 def stay_end(fault: TableFault) -> Explanation:
     owner, records = _owner(fault, BLOCK_WORDS[1])
-    chances = [int(it.fields[2]) for it in records]
-    rule = f"the last chance of {owner} is 1000000: on that day the last of those who are still there go home"
+    chances, whole = [int(it.fields[2]) for it in records], fault.parts
+    rule = f"the last chance of {owner} is {whole}: on that day the last of those who are still there go home"
     where = f"{fault.file}, the records of {owner}"
     here = f"they are {', '.join(map(str, chances))}"
     if not records:
-        change = Change(fault.file, "add", len(fault.lines()), csv_line([owner, "0", str(PARTS)]))
+        change = Change(fault.file, "add", len(fault.lines()), csv_line([owner, "0", str(whole)]))
         return Explanation(
-            where, rule, "there are none", "add a record for each age from 0, the last with 1000000", change
+            where, rule, "there are none", f"add a record for each age from 0, the last with {whole}", change
         )
-    if chances[-1] == PARTS:
+    if chances[-1] == whole:
         raise Unlike
-    if len(chances) > 1 and sum(chances) in (PARTS, 100):
-        meant = of_those_there(chances)
+    if chances[-1] == max(chances) == PARTS:
+        return _millionths(fault, records, chances, where, rule, here)
+    if len(chances) > 1 and sum(chances) in (whole, PARTS, 100):
+        meant = of_those_there(chances, whole)
         mend = (
             "they sum to the whole, as shares of all patients do; each is the chance of those still there:"
             f" {', '.join(map(str, meant))}"
@@ -396,15 +440,15 @@ def stay_end(fault: TableFault) -> Explanation:
         return Explanation(where, rule, here, mend, _rewritten(fault, records, meant))
     if chances[-1] == 100 and max(chances) == 100:
         return _percent(fault, records, chances, where, rule, here)
-    mend = "raise the last one to 1000000, or add the ages that are missing"
-    return Explanation(where, rule, here, mend, write(fault.file, records[-1], [*records[-1].fields[:2], str(PARTS)]))
+    mend = f"raise the last one to {whole}, or add the ages that are missing"
+    return Explanation(where, rule, here, mend, write(fault.file, records[-1], [*records[-1].fields[:2], str(whole)]))
 
 
 def stay_after_end(fault: TableFault) -> Explanation:
-    ends = [it for it in fault.same(before=True) if int(it.fields[2]) == PARTS]
+    ends = [it for it in fault.same(before=True) if int(it.fields[2]) == fault.parts]
     if not ends:
         raise Unlike
-    rule = f"nothing follows the chance 1000000 of {fault.fields[0]}, since nobody is there any more"
+    rule = f"nothing follows the chance {fault.parts} of {fault.fields[0]}, since nobody is there any more"
     here = f"line {ends[0].line} has it: {ends[0].text}"
     mend = "delete what follows, or lower that chance to that of those who go home on that day"
     return Explanation(fault.where, rule, here, mend, delete(fault.file, fault.record))
