@@ -20,7 +20,7 @@ position-at (x ∷ xs) name (suc i) h at differs = elim (cases_Bool (bytes_eq na
   | inr is ↦ rw is (let e = position-at xs name i (omega arith) at (λ k l. differs (suc k) (omega arith)) in omega arith)
 ]
 
--- a name among names that are apart has its place
+-- a name among distinct names has its place
 pub place-at : (names : List (List ℕ)) (place : ℕ) → AreNamesDistinct names → place < length names → place_of names (get_or names place []) ≡ Ok place
 place-at names place distinct within =
     let at = position-at names (get_or names place []) place within refl (λ k before. distinct k place before within) in

@@ -4,6 +4,7 @@ use Rattle.std.specs.List.{All}
 use Rattle.mss_model.specs.BlockAtAge.{BlockView, IsParts, IsBlock, no_block}
 use Rattle.mss_model.specs.NameRule.{is_name_text}
 use Rattle.mss_model.specs.TableWords.{slot_count, specialty_count, ward_count, kind_count, room_count, is_watched}
+use Rattle.mss_model.specs.declared.limits.TheConstants.{MOST_DAYS, MOST_ROOMS, MOST_SPECIALTIES, MOST_WARDS, MOST_KINDS, MOST_MINUTES, MOST_TARGET, MOST_DAILY, MOST_UNITS, MOST_LEVEL, MOST_LISTED, MOST_ALLOWANCE, MOST_BUDGET}
 use Rattle.mss_model.specs.declared.parts.TableParts.{TableParts}
 
 -- a number from low to high
@@ -43,9 +44,9 @@ pub record AreNames (low high : ℕ) (names : List (List ℕ)) : Type 0 where
 
 -- the days and rooms, and what is said of each slot
 pub record AreSlots (t : TableParts) : Type 0 where
-  pub days : Between 1 28 t.days
-  pub rooms : AreNames 1 16 t.rooms
-  pub minutes : AreNumbers (slot_count t) 0 1440 t.minutes
+  pub days : Between 1 MOST_DAYS t.days
+  pub rooms : AreNames 1 MOST_ROOMS t.rooms
+  pub minutes : AreNumbers (slot_count t) 0 MOST_MINUTES t.minutes
   pub fixed : AreNumbers (slot_count t) 0 (specialty_count t + 1) t.fixed
 
 -- the chances of each block are in so many parts
@@ -54,10 +55,10 @@ AreInParts parts blocks = (place : ℕ) → place < length blocks → (get_or bl
 
 -- the specialties with their wards, daily numbers and blocks, whose chances are all in the same parts
 pub record AreSpecialties (t : TableParts) : Type 0 where
-  pub names : AreNames 1 24 t.specialties
-  pub wards : AreNames 1 8 t.wards
+  pub names : AreNames 1 MOST_SPECIALTIES t.specialties
+  pub wards : AreNames 1 MOST_WARDS t.wards
   pub ward_of : AreNumbers (specialty_count t) 1 (ward_count t) t.ward_of
-  pub daily : AreNumbers (specialty_count t) 0 16 t.daily
+  pub daily : AreNumbers (specialty_count t) 0 MOST_DAILY t.daily
   pub blocks : length t.blocks ≡ specialty_count t
   pub blocks_good : All IsBlock t.blocks
   pub parts_good : IsParts t.parts
@@ -65,31 +66,31 @@ pub record AreSpecialties (t : TableParts) : Type 0 where
 
 -- the minutes that each specialty is to have
 pub record AreTargets (t : TableParts) : Type 0 where
-  pub low : AreNumbers (specialty_count t) 0 1000000 t.low
-  pub high : AreNumbers (specialty_count t) 0 1000000 t.high
+  pub low : AreNumbers (specialty_count t) 0 MOST_TARGET t.low
+  pub high : AreNumbers (specialty_count t) 0 MOST_TARGET t.high
   pub ordered : (i : ℕ) → i < specialty_count t → slice_index t.low i ≤ slice_index t.high i
 
 -- what each specialty needs, and where and when it may not be
 pub record AreNeeds (t : TableParts) : Type 0 where
-  pub equipment : AreNames 0 8 t.equipment
-  pub units : AreNumbers (kind_count t) 0 1000 t.units
-  pub needs : AreNumbers (specialty_count t * kind_count t) 0 1000 t.needs
+  pub equipment : AreNames 0 MOST_KINDS t.equipment
+  pub units : AreNumbers (kind_count t) 0 MOST_UNITS t.units
+  pub needs : AreNumbers (specialty_count t * kind_count t) 0 MOST_UNITS t.needs
   pub unsuited : AreNumbers (specialty_count t * room_count t) 0 1 t.unsuited
   pub barred : AreNumbers (specialty_count t * t.days) 0 1 t.barred
 
 -- the levels, the watched wards and the budget of the search
 pub record AreSettings (t : TableParts) : Type 0 where
-  pub level : Between 1 999999 t.level
-  pub some_levels : Between 1 8 (length t.levels)
-  pub levels : AreBetween 1 999999 t.levels
-  pub some_watch : Between 1 8 (length t.watch)
+  pub level : Between 1 MOST_LEVEL t.level
+  pub some_levels : Between 1 MOST_LISTED (length t.levels)
+  pub levels : AreBetween 1 MOST_LEVEL t.levels
+  pub some_watch : Between 1 MOST_LISTED (length t.watch)
   pub watch : AreBetween 1 (ward_count t) t.watch
   pub distinct : AreDistinct t.watch
-  pub budget : Between 1 20000 t.budget
+  pub budget : Between 1 MOST_BUDGET t.budget
 
 -- the beds that are always taken: a number for each ward, and none where its peak doesn't count
 pub record AreAllowances (t : TableParts) : Type 0 where
-  pub numbers : AreNumbers (ward_count t) 0 1000 t.allow
+  pub numbers : AreNumbers (ward_count t) 0 MOST_ALLOWANCE t.allow
   pub watched : (place : ℕ) → place < ward_count t → is_watched t (place + 1) ≡ false → slice_index t.allow place ≡ 0
 
 -- tables within the limits

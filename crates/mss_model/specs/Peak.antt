@@ -4,6 +4,7 @@ use Rattle.mss_model.specs.declared.parts.TableParts.{TableParts}
 use Rattle.mss_model.specs.TableWords.{ward_count, is_watched, allow_at}
 use Rattle.mss_model.specs.Percentile.{percentile}
 use Rattle.mss_model.specs.Census.{census}
+use Rattle.mss_model.specs.declared.limits.TheConstants.{WHOLE_LEVEL}
 
 -- the largest value of f at the numbers below n, or 0 where there are none
 abbrev pub largest_below : ℕ → (ℕ → ℕ) → ℕ
@@ -25,11 +26,11 @@ peak tables options a b =
 
 -- the peak at so many millionths
 abbrev pub peak_at : TableParts → List ℕ → ℕ → ℕ
-peak_at tables options level = peak tables options level 1000000
+peak_at tables options level = peak tables options level WHOLE_LEVEL
 
 -- the peaks at a level that is 2^-30 lower, and 2^-30 higher
 abbrev pub peak_below : TableParts → List ℕ → ℕ → ℕ
-peak_below tables options level = peak tables options (level * 2 ^ 30 - 1000000) (1000000 * 2 ^ 30)
+peak_below tables options level = peak tables options (level * 2 ^ 30 - WHOLE_LEVEL) (WHOLE_LEVEL * 2 ^ 30)
 
 abbrev pub peak_above : TableParts → List ℕ → ℕ → ℕ
-peak_above tables options level = peak tables options (level * 2 ^ 30 + 1000000) (1000000 * 2 ^ 30)
+peak_above tables options level = peak tables options (level * 2 ^ 30 + WHOLE_LEVEL) (WHOLE_LEVEL * 2 ^ 30)

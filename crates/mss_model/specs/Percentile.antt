@@ -1,5 +1,6 @@
 -- Cumulative weights, percentiles and means of distributions.
 use Rattle.std.specs.Prelude.{ℕ, zero, suc, ◌+◌, ◌-◌, ◌*◌, ◌^◌, Bool, cond, List, [], ◌∷◌, length, sum, take, nat_le}
+use Rattle.mss_model.specs.declared.limits.TheConstants.{WHOLE_LEVEL}
 
 -- the weight of the outcomes up to x
 abbrev pub cumulative : List ℕ → ℕ → ℕ
@@ -16,14 +17,14 @@ percentile e a b = least (length e) (λ x. nat_le (a * sum e) (cumulative e x * 
 
 -- the percentile at so many millionths
 abbrev pub percentile_at : List ℕ → ℕ → ℕ
-percentile_at e level = percentile e level 1000000
+percentile_at e level = percentile e level WHOLE_LEVEL
 
 -- the percentiles at a level that is 2^-30 lower, and 2^-30 higher
 abbrev pub percentile_below : List ℕ → ℕ → ℕ
-percentile_below e level = percentile e (level * 2 ^ 30 - 1000000) (1000000 * 2 ^ 30)
+percentile_below e level = percentile e (level * 2 ^ 30 - WHOLE_LEVEL) (WHOLE_LEVEL * 2 ^ 30)
 
 abbrev pub percentile_above : List ℕ → ℕ → ℕ
-percentile_above e level = percentile e (level * 2 ^ 30 + 1000000) (1000000 * 2 ^ 30)
+percentile_above e level = percentile e (level * 2 ^ 30 + WHOLE_LEVEL) (WHOLE_LEVEL * 2 ^ 30)
 
 -- The sum of x * weight of x, which is the mean times the sum of the weights: each later outcome counts once more.
 abbrev pub moment : List ℕ → ℕ

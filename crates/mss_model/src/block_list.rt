@@ -15,11 +15,16 @@ pub struct Blocks {
 }
 
 impl Model for Blocks {
+    ghost use Rattle.std.specs.Prelude.{◌≤◌, List, length};
+    ghost use Rattle.std.specs.List.{All};
+    ghost use Rattle.mss_model.specs.BlockAtAge.{BlockView, IsBlock};
+    ghost use Rattle.mss_model.specs.declared.growing.TheConstants.{MOST_MEMBERS};
+
     ghost Value = { List BlockView };
 
     ghost view = { λ b. b.blocks.items };
 
-    ghost invariant = { λ b. (length b.blocks.items ≤ 4294967292) × All IsBlock b.blocks.items };
+    ghost invariant = { λ b. (length b.blocks.items ≤ MOST_MEMBERS) × All IsBlock b.blocks.items };
 }
 
 impl Blocks {

@@ -17,6 +17,9 @@ pub const FILE_NAMES: [&str; 11] = [
     "block.csv",
 ];
 
+/// The most bytes of such a file, and of cycle.csv: 4 MiB.
+pub const MOST_BYTES: usize = 4_194_304;
+
 /// How many files a set of tables is read from.
 pub const TABLE_FILES: u8 = 10;
 

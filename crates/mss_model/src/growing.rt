@@ -99,11 +99,14 @@ pub struct Names {
 }
 
 impl Model for Names {
+    ghost use Rattle.std.specs.Prelude.{ℕ, ◌≤◌, List, length, map};
+    ghost use Rattle.mss_model.specs.declared.growing.TheConstants.{MOST_MEMBERS};
+
     ghost Value = { List (List ℕ) };
 
     ghost view = { λ n. map (λ name. name.items) n.names.items };
 
-    ghost invariant = { λ n. length n.names.items ≤ 4294967292 };
+    ghost invariant = { λ n. length n.names.items ≤ MOST_MEMBERS };
 }
 
 impl Names {

@@ -22,6 +22,9 @@ pub const MOST_WARDS: u32 = 8;
 /// The most kinds of equipment.
 pub const MOST_KINDS: u32 = 8;
 
+/// The most slots of a cycle.
+pub const MOST_SLOTS: u32 = 448;
+
 /// The most minutes of a slot.
 pub const MOST_MINUTES: u32 = 1_440;
 
@@ -33,6 +36,9 @@ pub const MOST_DAILY: u32 = 16;
 
 /// The most units of a kind of equipment that there are, or that a block takes.
 pub const MOST_UNITS: u32 = 1_000;
+
+/// The level that the whole has, in millionths.
+pub const WHOLE_LEVEL: u32 = 1_000_000;
 
 /// The greatest level, in millionths. The least is 1.
 pub const MOST_LEVEL: u32 = 999_999;

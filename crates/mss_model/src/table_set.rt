@@ -4,7 +4,11 @@ ghost use Rattle.mss_model.specs.BlockAtAge.{IsParts, IsBlock};
 ghost use Rattle.mss_model.specs.Limits.{Between, AreBetween, IsTables};
 ghost use Rattle.mss_model.specs.TableWords.{room_count, slot_count, specialty_count, ward_count, kind_count, day_of, room_of, minutes_at, block_of, ward_at, daily_at, low_at, high_at, units_at, need_at, is_unsuited, is_barred, fixed_at, is_watched, allow_at, name_at};
 
-use crate::limits::{are_tables, is_watched};
+use crate::limits::{
+    MOST_ALLOWANCE, MOST_BUDGET, MOST_DAILY, MOST_DAYS, MOST_KINDS, MOST_LEVEL, MOST_LISTED,
+    MOST_MINUTES, MOST_ROOMS, MOST_SLOTS, MOST_SPECIALTIES, MOST_TARGET, MOST_UNITS, MOST_WARDS,
+    are_tables, is_watched,
+};
 use crate::one_block::Block;
 use crate::parts::TableParts;
 
@@ -33,7 +37,7 @@ impl Tables {
 
     pub fn days(&self) -> u8
         ensures value { result ≡ (parts_of self.now).days }
-        ensures limits { Between 1 28 result }
+        ensures limits { Between 1 MOST_DAYS result }
     {
         self.parts.days
     }
@@ -48,28 +52,28 @@ impl Tables {
 
     pub fn rooms(&self) -> u8
         ensures value { result ≡ room_count (parts_of self.now) }
-        ensures limits { Between 1 16 result }
+        ensures limits { Between 1 MOST_ROOMS result }
     {
         self.parts.rooms.len() as u8
     }
 
     pub fn slots(&self) -> u32
         ensures value { result ≡ slot_count (parts_of self.now) }
-        ensures limits { Between 1 448 result }
+        ensures limits { Between 1 MOST_SLOTS result }
     {
         u32::from(self.parts.days) * self.parts.rooms.len()
     }
 
     pub fn specialties(&self) -> u8
         ensures value { result ≡ specialty_count (parts_of self.now) }
-        ensures limits { Between 1 24 result }
+        ensures limits { Between 1 MOST_SPECIALTIES result }
     {
         self.parts.specialties.len() as u8
     }
 
     pub fn wards(&self) -> u8
         ensures value { result ≡ ward_count (parts_of self.now) }
-        ensures limits { Between 1 8 result }
+        ensures limits { Between 1 MOST_WARDS result }
     {
         self.parts.wards.len() as u8
     }
@@ -77,7 +81,7 @@ impl Tables {
     /// The number of kinds of equipment.
     pub fn kinds(&self) -> u8
         ensures value { result ≡ kind_count (parts_of self.now) }
-        ensures limits { result ≤ 8 }
+        ensures limits { result ≤ MOST_KINDS }
     {
         self.parts.equipment.len() as u8
     }
@@ -85,7 +89,7 @@ impl Tables {
     pub fn minutes(&self, slot: u32) -> u32
         requires { slot < slot_count (parts_of self.now) }
         ensures value { result ≡ minutes_at (parts_of self.now) slot }
-        ensures limits { result ≤ 1440 }
+        ensures limits { result ≤ MOST_MINUTES }
     {
         self.parts.minutes.as_slice()[slot as usize]
     }
@@ -129,7 +133,7 @@ impl Tables {
     pub fn daily(&self, j: u8) -> u32
         requires { Between 1 (specialty_count (parts_of self.now)) j }
         ensures value { result ≡ daily_at (parts_of self.now) j }
-        ensures limits { result ≤ 16 }
+        ensures limits { result ≤ MOST_DAILY }
     {
         self.parts.daily.as_slice()[usize::from(j) - 1]
     }
@@ -138,7 +142,7 @@ impl Tables {
     pub fn low(&self, j: u8) -> u32
         requires { Between 1 (specialty_count (parts_of self.now)) j }
         ensures value { result ≡ low_at (parts_of self.now) j }
-        ensures limits { result ≤ 1000000 }
+        ensures limits { result ≤ MOST_TARGET }
     {
         self.parts.low.as_slice()[usize::from(j) - 1]
     }
@@ -147,7 +151,7 @@ impl Tables {
     pub fn high(&self, j: u8) -> u32
         requires { Between 1 (specialty_count (parts_of self.now)) j }
         ensures value { result ≡ high_at (parts_of self.now) j }
-        ensures limits { Between (low_at (parts_of self.now) j) 1000000 result }
+        ensures limits { Between (low_at (parts_of self.now) j) MOST_TARGET result }
     {
         self.parts.high.as_slice()[usize::from(j) - 1]
     }
@@ -156,7 +160,7 @@ impl Tables {
     pub fn units(&self, kind: u8) -> u32
         requires { Between 1 (kind_count (parts_of self.now)) kind }
         ensures value { result ≡ units_at (parts_of self.now) kind }
-        ensures limits { result ≤ 1000 }
+        ensures limits { result ≤ MOST_UNITS }
     {
         self.parts.units.as_slice()[usize::from(kind) - 1]
     }
@@ -166,7 +170,7 @@ impl Tables {
         requires specialty { Between 1 (specialty_count (parts_of self.now)) j }
         requires kind { Between 1 (kind_count (parts_of self.now)) kind }
         ensures value { result ≡ need_at (parts_of self.now) j kind }
-        ensures limits { result ≤ 1000 }
+        ensures limits { result ≤ MOST_UNITS }
     {
         let place = (usize::from(j) - 1) * self.parts.equipment.len() as usize
             + (usize::from(kind) - 1);
@@ -211,7 +215,7 @@ impl Tables {
     /// The level of the peak, in millionths.
     pub fn level(&self) -> u32
         ensures value { result ≡ (parts_of self.now).level }
-        ensures limits { Between 1 999999 result }
+        ensures limits { Between 1 MOST_LEVEL result }
     {
         self.parts.level
     }
@@ -219,8 +223,8 @@ impl Tables {
     /// The levels of the report, in millionths.
     pub fn levels(&self) -> &[u32]
         ensures value { result.now ≡ (parts_of self.now).levels }
-        ensures limits { AreBetween 1 999999 result.now }
-        ensures count { Between 1 8 (length result.now) }
+        ensures limits { AreBetween 1 MOST_LEVEL result.now }
+        ensures count { Between 1 MOST_LISTED (length result.now) }
     {
         self.parts.levels.as_slice()
     }
@@ -237,7 +241,7 @@ impl Tables {
     pub fn allow(&self, ward: u8) -> u32
         requires { Between 1 (ward_count (parts_of self.now)) ward }
         ensures value { result ≡ allow_at (parts_of self.now) ward }
-        ensures limits { result ≤ 1000 }
+        ensures limits { result ≤ MOST_ALLOWANCE }
     {
         self.parts.allow.as_slice()[usize::from(ward) - 1]
     }
@@ -245,7 +249,7 @@ impl Tables {
     /// The most turns of the search.
     pub fn budget(&self) -> u32
         ensures value { result ≡ (parts_of self.now).budget }
-        ensures limits { Between 1 20000 result }
+        ensures limits { Between 1 MOST_BUDGET result }
     {
         self.parts.budget
     }

@@ -13,5 +13,5 @@ mod writing;
 pub use fields::{five, name_of, number_between, three, two};
 pub use refusal::{Fault, FileRefusal, RowRefusal};
 pub use rows::Rows;
-pub use table::{MOST_BYTES, Table, read_file};
+pub use table::{Table, read_file};
 pub use writing::push_row;

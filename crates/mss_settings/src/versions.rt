@@ -9,7 +9,7 @@ ghost use Rattle.mss_settings.specs.Table.{as_parts};
 use crate::keys::{holds_integer, holds_integers};
 use crate::lookup::{has_key, integer_at, number_at};
 use crate::refusal::{SettingsRefusal, refuse};
-use mss_model::{FINE_PARTS, Kind, PARTS};
+use mss_model::{Kind, PARTS, is_parts};
 use toml::Table;
 
 /// Whether the version is 1.
@@ -47,7 +47,7 @@ fn as_parts(value: i64) -> Option<u32>
     ensures known { IfSome result IsParts }
 {
     match u32::try_from(value) {
-        Ok(parts) if parts == PARTS || parts == FINE_PARTS => Some(parts),
+        Ok(parts) if is_parts(parts) => Some(parts),
         _ => None,
     }
 }

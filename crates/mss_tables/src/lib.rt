@@ -12,6 +12,7 @@ mod chances;
 mod cycle_file;
 mod cycle_writing;
 mod equipment;
+mod fields;
 mod files;
 mod hospital;
 mod numbering;
