@@ -1,9 +1,10 @@
 -- Children of one prefix differ on the wards of their last options alone.
 use Rattle.std.proofs.Common.{◌≡◌, ◌+◌, ◌-◌, ◌*◌, ◌<◌, ◌≤◌, ◌==◌, ◌&&◌, ℕ, zero, suc, Bool, true, false, List, [], ◌∷◌, ◌++◌, length, map, take, get_or, replicate, refl, sym, ap, ap₂, ◌∙◌, inl, inr, arith, take_all, ne_eqb}
-use Rattle.std.specs.Prelude.{flat_map, if◌then◌else◌}
+use Rattle.std.specs.Prelude.{flat_map, slice_set, if◌then◌else◌}
 use Rattle.std.specs.List.{filter, range_with_len}
-use Rattle.std.proofs.lemmas.Bool.{cases_Bool}
-use Rattle.std.proofs.lemmas.List.{length-append, length-map, take_more}
+use Rattle.std.proofs.lemmas.Bool.{cases_Bool, cases_eq}
+use Rattle.std.proofs.lemmas.Grind.{get_or-set_at}
+use Rattle.std.proofs.lemmas.List.{get_or-set_other, length-append, length-map, take_more}
 use Rattle.mss_model.specs.declared.parts.TableParts.{TableParts}
 use Rattle.mss_model.specs.Legality.{option_at, given_minutes, could_take, some_below}
 use Rattle.mss_model.specs.Occurrences.{lies_on, offset}
@@ -18,7 +19,7 @@ use Rattle.mss_enclose.specs.Kept.{joined_all, raised}
 use Rattle.mss_census.specs.WardLists.{WardLists, slot_parts, parts_from, census_list, lists_of}
 use Rattle.mss_floor.specs.FloorLists.{floor_of, steady_list}
 use Rattle.mss_floor.specs.FlooredLists.{fitting, plain_list, floored_census}
-use Rattle.mss_floor.specs.ForcedBlocks.{blocks_for, forced, forced_blocks, open_minutes}
+use Rattle.mss_floor.specs.ForcedBlocks.{AreForced, blocks_for, forced, forced_blocks, open_minutes}
 use Rattle.mss_pctl.specs.Peaks.{Place, peak_places}
 use Rattle.mss_bounds.specs.declared.ward_days.WardDay.{WardDay}
 use Rattle.mss_bounds.specs.Children.{parent_of, idle_sibling}
@@ -66,6 +67,17 @@ forced-beside : (t : TableParts) (p : List ℕ) (a b j : ℕ) → (a == j) ≡ f
 forced-beside t p a b j not_a not_b =
     ap₂ blocks_for (ap (λ m. low_at t j - m) (minutes-beside t p a b j not_a not_b))
     (ap (λ n. largest_below (slot_count t - n) (λ k. open_minutes t j (n + k))) (as-long p a b))
+
+-- a child forces what its idle sibling does, but for the specialty of its last option
+pub forced-of-child : (t : TableParts) (c idle : List ℕ) (option blocks : ℕ) → 0 < length c → option ≡ get_or c (length c - 1) 0 → option < length idle
+    → AreForced t (idle_sibling c) idle → blocks ≡ forced t c option → AreForced t c (slice_set idle option blocks)
+forced-of-child t c idle option blocks some is inside known here j from last = elim (cases_eq j option) [
+  | inl same ↦ get_or-set_at idle option j blocks 0 same inside ∙ here ∙ ap (forced t c) (sym same)
+  | inr other ↦
+      get_or-set_other idle option j blocks 0 other ∙ known j from last
+      ∙ forced-beside t (parent_of c) 0 option j (ne_eqb 0 j (omega (arith, from))) (ne_eqb option j (λ e. other (sym e)))
+      ∙ ap (λ (o : ℕ). forced t (parent_of c ++ o ∷ []) j) is ∙ ap (λ (q : List ℕ). forced t q j) (last-of c some)
+]
 
 -- a specialty of the ward is none of other wards
 distinct : (ward_of : List ℕ) (w a j : ℕ) → lies_on ward_of w a ≡ false → lies_on ward_of w j ≡ true → (a == j) ≡ false

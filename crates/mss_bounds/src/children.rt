@@ -11,21 +11,22 @@ ghost use Rattle.mss_floor.specs.FlooredLists.{plain_list, floored_census};
 ghost use Rattle.mss_floor.specs.ForcedBlocks.{AreForced};
 ghost use Rattle.mss_pctl.specs.Peaks.{peak_places};
 ghost use Rattle.mss_bounds.specs.CarriedLists.{IsHeld};
-ghost use Rattle.mss_bounds.specs.Children.{AreLows, idle_sibling, parent_of};
+ghost use Rattle.mss_bounds.specs.Children.{IsIdleChild, idle_sibling, parent_of};
 ghost use Rattle.mss_bounds.specs.PrefixBound.{bound_of, low_number};
 ghost use Rattle.mss_bounds.specs.Spots.{place_of, places_of};
 
 use crate::carried::Carried;
 use crate::floored::Floored;
+use crate::idle_child::{IdleChild, MOST_PLACES};
 use crate::lists::go_on;
 use crate::prefix_bound::Bound;
 use crate::ward_days::WardDay;
 use mss_census::{Census, lies_on};
 use mss_enclose::{Count, Enclosure, Kernel};
-use mss_floor::forced_counts;
+use mss_floor::{forced, forced_counts};
 use mss_model::Tables;
 
-/// The low numbers of the child whose last slot is idle, at all places: it has the lists of its parent.
+/// What is known of the child whose last slot is idle: it has the lists of its parent.
 pub(crate) fn idle_over<E: Enclosure, K: Kernel>(
     kernel: &K,
     tables: &Tables,
@@ -34,7 +35,7 @@ pub(crate) fn idle_over<E: Enclosure, K: Kernel>(
     parent: &Carried<E>,
     floored: &mut Floored<E>,
     count: &mut Count,
-) -> [u32; 224]
+) -> IdleChild
     requires spots { places_of spots.now ≡ peak_places (parts_of tables.now) }
     requires held { IsHeld E.joined (lists_of (parts_of tables.now)) (places_of spots.now) parent.now }
     requires idle { idle.now ≡ parent.now.prefix ++ 0 ∷ [] }
@@ -42,28 +43,28 @@ pub(crate) fn idle_over<E: Enclosure, K: Kernel>(
     requires options { All (λ option. option < option_count (parts_of tables.now)) idle.now }
     requires floors { floored.old ≡ steady_table (parts_of tables.now) }
     requires count { count.old ≤ 2 ^ 62 + 2 ^ 61 }
-    ensures lows { AreLows (floored_census E.joined) E.low_of (parts_of tables.now) idle.now result }
+    ensures idle { IsIdleChild (floored_census E.joined) E.low_of (parts_of tables.now) idle.now result }
     ensures floors { floored.new ≡ floored.old }
 {
     let blocks = forced_counts(tables, idle);
-    let mut lows = [0; 224];
+    let mut lows = [0; MOST_PLACES];
     for (place, spot) in spots.iter().enumerate() {
         let list = parent.list(place);
         let low = floored.low(kernel, tables, idle, &blocks, list, *spot, count);
         set_low(&mut lows, place, low);
     }
-    lows
+    IdleChild { lows, blocks }
 }
 
 /// Sets the number at a place.
-fn set_low(lows: &mut [u32; 224], place: usize, low: u32)
-    requires { place < 224 }
-    ensures { (i : ℕ) → i < 224 → slice_index lows.new i ≡ (if i == place then low else slice_index lows.old i) }
+fn set_low(lows: &mut [u32; MOST_PLACES], place: usize, low: u32)
+    requires { place < MOST_PLACES }
+    ensures { (i : ℕ) → i < MOST_PLACES → slice_index lows.new i ≡ (if i == place then low else slice_index lows.old i) }
 {
     lows[place] = low;
 }
 
-/// The largest low number of a child, and the first place that has it, where the low numbers of its idle sibling are known.
+/// The largest low number of a child, and the first place that has it, where its idle sibling is known.
 pub(crate) fn child_over<E: Enclosure, K: Kernel>(
     kernel: &K,
     tables: &Tables,
@@ -71,7 +72,7 @@ pub(crate) fn child_over<E: Enclosure, K: Kernel>(
     spots: &[WardDay],
     child: &[u8],
     parent: &Carried<E>,
-    lows: &[u32; 224],
+    idle: &IdleChild,
     floored: &mut Floored<E>,
     count: &mut Count,
 ) -> Bound
@@ -82,14 +83,14 @@ pub(crate) fn child_over<E: Enclosure, K: Kernel>(
     requires some { 0 < length child.now }
     requires long { length child.now ≤ slot_count (parts_of tables.now) }
     requires options { All (λ option. option < option_count (parts_of tables.now)) child.now }
-    requires lows { AreLows (floored_census E.joined) E.low_of (parts_of tables.now) (idle_sibling child.now) lows.now }
+    requires idle { IsIdleChild (floored_census E.joined) E.low_of (parts_of tables.now) (idle_sibling child.now) idle.now }
     requires floors { floored.old ≡ steady_table (parts_of tables.now) }
     requires count { count.old ≤ 2 ^ 62 + 2 ^ 61 }
     ensures value { result ≡ bound_of (floored_census E.joined) E.low_of (parts_of tables.now) child.now }
     ensures lists { census.new.lists ≡ census.old.lists }
     ensures floors { floored.new ≡ floored.old }
 {
-    let blocks = forced_counts(tables, child);
+    let blocks = sibling_counts(tables, child, &idle.blocks);
     let mut bound = Bound::none();
     for (place, spot) in spots.iter().enumerate() {
         let low = child_low(
@@ -100,13 +101,29 @@ pub(crate) fn child_over<E: Enclosure, K: Kernel>(
             &blocks,
             parent.list(place),
             *spot,
-            lows[place],
+            idle.lows[place],
             floored,
             count,
         );
         bound = bound.with(low, spot.ward, spot.day);
     }
     bound
+}
+
+/// How many blocks a child forces of each specialty, where those are given that its idle sibling forces.
+fn sibling_counts(tables: &Tables, child: &[u8], idle: &[u32; 25]) -> [u32; 25]
+    requires some { 0 < length child.now }
+    requires long { length child.now ≤ slot_count (parts_of tables.now) }
+    requires options { All (λ option. option < option_count (parts_of tables.now)) child.now }
+    requires idle { AreForced (parts_of tables.now) (idle_sibling child.now) idle.now }
+    ensures { AreForced (parts_of tables.now) child.now result }
+{
+    let option = child[child.len() - 1];
+    let mut blocks = *idle;
+    if option > 0 {
+        blocks[usize::from(option)] = forced(tables, child, option);
+    }
+    blocks
 }
 
 /// The low number of a child at a ward and day, where the list of its parent there and the low number of its idle sibling

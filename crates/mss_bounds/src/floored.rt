@@ -11,14 +11,12 @@ ghost use Rattle.mss_bounds.specs.PrefixBound.{low_number};
 ghost use Rattle.mss_bounds.specs.Spots.{place_of};
 
 use crate::ward_days::WardDay;
+use mss_census::CENSUS_ROOM;
 use mss_enclose::{Count, Enclosure, Kernel, Scratch};
 use mss_floor::Floors;
 use mss_model::{NoMemory, Tables};
 use std::alloc::Global;
 use std::marker::Model;
-
-/// The most numbers of a floored list.
-const ROOM: usize = 15_361;
 
 /// Floors, and a copy of a list onto which they are pushed. It is seen as the steady lists of the floors.
 #[derive(Drop)]
@@ -50,8 +48,8 @@ impl<E: Enclosure> Floored<E> {
         ensures { IfOk result (λ f. f ≡ steady_table (parts_of tables.now)) }
     {
         let floors = Floors::make(alloc, kernel, tables)?;
-        let copy = E::make(alloc, ROOM)?;
-        let scratch = Scratch::make(alloc, ROOM)?;
+        let copy = E::make(alloc, CENSUS_ROOM)?;
+        let scratch = Scratch::make(alloc, CENSUS_ROOM)?;
         Ok(Floored {
             floors,
             copy,

@@ -54,15 +54,16 @@ census-near j S law near len start q t w day options h pos l =
 
 -- there is room for one slot more
 pub push-room : (j : List ℕ → List ℕ → List ℕ) → ((a b : List ℕ) → length (j a b) ≡ length a + length b - 1)
-    → (q : Quantity) (t : TableParts) (w day slot option : ℕ) (options : List ℕ) → IsTables t → 0 < w → length options ≤ slot → slot < slot_count t
-    → length (census_list j (quantity_lists q t) w day options) + sum_by (λ p. length p - 1) (slot_parts (quantity_lists q t) w day slot option) ≤ 15361
-push-room j len q t w day slot option options h pos l m =
+    → (q : Quantity) (t : TableParts) (w day slot option size : ℕ) (options : List ℕ) → IsTables t → 0 < w → length options ≤ slot → slot < slot_count t
+    → ((os : List ℕ) → length os ≤ slot_count t → length (census_list j (quantity_lists q t) w day os) ≤ size)
+    → length (census_list j (quantity_lists q t) w day options) + sum_by (λ p. length p - 1) (slot_parts (quantity_lists q t) w day slot option) ≤ size
+push-room j len q t w day slot option size options h pos l m enough =
     let gap : ℕ = slot - length options in
     let all : List ℕ = options ++ replicate (slot - length options) 0 ++ option ∷ [] in
     let n : length (options ++ replicate (slot - length options) 0 ++ option ∷ []) ≡ slot + 1 =
     omega (arith, length-append (options ++ replicate (slot - length options) 0) (option ∷ []), length-append options (replicate (slot - length options) 0), length-replicate {A = ℕ} (slot - length options) 0) in
-    let after : length (census_list j (quantity_lists q t) w day (options ++ replicate (slot - length options) 0 ++ option ∷ [])) ≤ 15361 =
-    census-long j len q t w day (options ++ replicate (slot - length options) 0 ++ option ∷ []) h pos (omega (arith, n, m)) in
+    let after : length (census_list j (quantity_lists q t) w day (options ++ replicate (slot - length options) 0 ++ option ∷ [])) ≤ size =
+    enough (options ++ replicate (slot - length options) 0 ++ option ∷ []) (omega (arith, n, m)) in
     let more : census_list j (quantity_lists q t) w day (options ++ replicate (slot - length options) 0 ++ option ∷ []) ≡ joined_all j (census_list j (quantity_lists q t) w day options) (slot_parts (quantity_lists q t) w day slot option) =
     census-more j (quantity_lists q t) w day slot option options (slot - length options) (omega (arith, l)) in
     let stand : PartsStand (slot_parts (quantity_lists q t) w day slot option) (slot_sums q t w day slot option) = slot-stands q t w day slot option h pos in

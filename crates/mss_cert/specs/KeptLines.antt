@@ -8,6 +8,7 @@ use Rattle.mss_cert.specs.declared.lines.Kept.TheVariants as kept
 use Rattle.mss_cert.specs.declared.lines.Judged.{Judged}
 use Rattle.mss_cert.specs.declared.lines.Left.{Left}
 use Rattle.mss_cert.specs.declared.lines.Numbers.{Numbers}
+use Rattle.mss_model.specs.declared.growing.TheConstants.{MOST_MEMBERS}
 
 -- the numbers of a full or closed line, and of an open one, at a place
 abbrev pub judged_at : Numbers → ℕ → Judged
@@ -38,5 +39,5 @@ Keeps old new = (kept : Kept) → IsKept old kept → IsKept new kept × (line_o
 
 -- the lines are so many that a number of 32 bits counts them, and the numbers of each are there
 pub record AreKept (numbers : Numbers) (lines : List Kept) : Type 0 where
-  pub few : length lines ≤ 4294967292
+  pub few : length lines ≤ MOST_MEMBERS
   pub each : AllByRecursion (IsKept numbers) lines

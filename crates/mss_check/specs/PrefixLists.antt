@@ -3,6 +3,7 @@ use Rattle.std.specs.Prelude.{◌≡◌, ℕ, List}
 use Rattle.mss_model.specs.declared.parts.TableParts.{TableParts}
 use Rattle.mss_census.specs.WardLists.{WardLists, lists_of}
 use Rattle.mss_floor.specs.FloorLists.{steady_table}
+use Rattle.mss_census.specs.declared.ward_census.TheConstants.{CENSUS_ROOM}
 
 -- The version of certificates that it serves, the lists of its tables and those from which their floors are made, and the
 -- list of the prefix that was set last.
@@ -19,5 +20,5 @@ pub record IsListOf (tables : TableParts) (v : PrefixListView) : Type 0 where
 
 -- there is room for each floored list
 pub record IsRoomy (size scratch : ℕ) : Type 0 where
-  pub list_room : size ≡ 15361
-  pub scratch_room : scratch ≡ 15361
+  pub list_room : size ≡ CENSUS_ROOM
+  pub scratch_room : scratch ≡ CENSUS_ROOM

@@ -8,15 +8,12 @@ ghost use Rattle.mss_census.specs.WardLists.{lists_of};
 ghost use Rattle.mss_floor.specs.FloorLists.{steady_table};
 ghost use Rattle.mss_check.specs.Validity.{list_of};
 
-use mss_census::Census;
+use mss_census::{CENSUS_ROOM, Census};
 use mss_enclose::{Count, Enclosure, Kernel, Scratch};
 use mss_floor::Floors;
 use mss_model::{NoMemory, Tables};
 use std::alloc::Global;
 use std::marker::Model;
-
-/// The most numbers of the list of a prefix.
-const ROOM: usize = 15_361;
 
 /// The list of a prefix at a ward and day on which the numbers of a certificate of a version rest. It is seen as the
 /// version, the lists that its tables gave, and the list of the prefix that was set last.
@@ -55,8 +52,8 @@ impl<E: Enclosure> PrefixList<E> {
     {
         let census = Census::<E>::make(alloc, kernel, tables)?;
         let floors = Floors::make(alloc, kernel, tables)?;
-        let list = E::make(alloc, ROOM)?;
-        let scratch = Scratch::make(alloc, ROOM)?;
+        let list = E::make(alloc, CENSUS_ROOM)?;
+        let scratch = Scratch::make(alloc, CENSUS_ROOM)?;
         Ok(PrefixList {
             version,
             census,

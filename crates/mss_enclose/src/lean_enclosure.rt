@@ -50,7 +50,12 @@ impl Enclosure for Lean {
         self.len = 1;
     }
 
+    /// A part of one number is raised to the list of no patients, which leaves every list as it is.
+    #[tactic(auto, using(crate::proofs::OneNumber::one_number))]
     fn push<K: Kernel>(&mut self, kernel: &K, part: &Masses, scratch: &mut Scratch) {
+        if part.len() == 1 {
+            return;
+        }
         let len = full_front(
             kernel,
             self.list(),

@@ -8,14 +8,15 @@ use Rattle.mss_enclose.specs.Kept.{joined_all}
 use Rattle.mss_census.specs.WardLists.{lists_of, census_list}
 use Rattle.mss_floor.specs.ForcedBlocks.{forced_blocks}
 use Rattle.mss_floor.specs.FloorLists.{specialty_floor}
+use Rattle.mss_census.specs.declared.ward_census.TheConstants.{CENSUS_ROOM}
 
 -- The parts that are pushed onto a list of this length: at most so many, and none from the first on that would make the
--- list longer than 15,361.
+-- list longer than any census list.
 abbrev pub fitting : ℕ → ℕ → List (List ℕ) → List (List ℕ)
 fitting zero long parts = []
 fitting (suc most) long [] = []
 fitting (suc most) long (part ∷ parts) =
-    if nat_le (long + length part) 15362 then part ∷ fitting most (long + length part - 1) parts else []
+    if nat_le (long + length part) (CENSUS_ROOM + 1) then part ∷ fitting most (long + length part - 1) parts else []
 
 -- the floors of a ward and day that are pushed onto a list of this length
 abbrev pub floors_for : TableParts → List ℕ → ℕ → ℕ → ℕ → List (List ℕ)

@@ -6,6 +6,7 @@ use Rattle.mss_model.specs.Occurrences.{offset}
 use Rattle.mss_enclose.specs.Unit.{unit}
 use Rattle.mss_enclose.specs.Kept.{raised}
 use Rattle.mss_floor.specs.FloorLists.{greatest_cumulative, shortest, steady_list}
+use Rattle.mss_floor.specs.declared.floors.TheConstants.{FLOOR_ROOM}
 
 -- how long the floor of these lists is, or 0 where there are none
 abbrev pub floor_length : List (List ℕ) → ℕ
@@ -25,8 +26,8 @@ AreFull (a ∷ lists) = (sum a ≡ unit) × AreFull lists
 
 -- room for each floor
 pub record AreFloors (sums floor : ℕ) : Type 0 where
-  pub sums_room : sums ≡ 961
-  pub floor_room : floor ≡ 961
+  pub sums_room : sums ≡ FLOOR_ROOM
+  pub floor_room : floor ≡ FLOOR_ROOM
 
 -- what one day adds to the lists, where it counts
 abbrev pub day_choice : TableParts → ℕ → ℕ → ℕ → Bool → List (List ℕ)

@@ -17,7 +17,7 @@ use std::alloc::Global;
 use std::marker::Model;
 
 /// The most numbers of a steady list.
-const MOST_NUMBERS: usize = 961;
+pub(crate) const FLOOR_ROOM: usize = 961;
 
 /// The steady lists of all specialties, and memory for one floor. It is seen as these lists, one for each specialty and
 /// offset.
@@ -52,8 +52,8 @@ impl Floors {
         for j in 0..tables.specialties() {
             lists.push(steady(alloc, kernel, tables.block(j + 1), tables.days())?)?;
         }
-        let sums = vec![in alloc; 0; MOST_NUMBERS]?;
-        let floor = Masses::make(alloc, MOST_NUMBERS)?;
+        let sums = vec![in alloc; 0; FLOOR_ROOM]?;
+        let floor = Masses::make(alloc, FLOOR_ROOM)?;
         Ok(Floors {
             steady: lists,
             sums,
@@ -95,14 +95,14 @@ pub(crate) fn set_floor(
     j: u8,
     day: u8,
 )
-    requires room { length sums.old ≡ 961 }
-    requires floor { masses_room floor.old ≡ 961 }
+    requires room { length sums.old ≡ FLOOR_ROOM }
+    requires floor { masses_room floor.old ≡ FLOOR_ROOM }
     requires lists { mass_lists lists.now ≡ steady_lists (parts_of tables.now).days (block_of (parts_of tables.now) j) }
     requires long { length prefix.now ≤ slot_count (parts_of tables.now) }
     requires specialty { Between 1 (specialty_count (parts_of tables.now)) j }
     ensures list { masses_list floor.new ≡ floor_of (choices (parts_of tables.now) prefix.now j day) }
-    ensures floor { masses_room floor.new ≡ 961 }
-    ensures room { length sums.new ≡ 961 }
+    ensures floor { masses_room floor.new ≡ FLOOR_ROOM }
+    ensures room { length sums.new ≡ FLOOR_ROOM }
 {
     if adds_none(lists, tables, prefix, j, day) {
         floor.reset();

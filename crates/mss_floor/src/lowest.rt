@@ -1,12 +1,12 @@
 //! The greatest cumulative numbers of some lists.
-ghost use Rattle.std.specs.Prelude.{◌≡◌, ℕ, ◌+◌, ◌-◌, ◌<◌, ◌≤◌, Bool, ◌&&◌, ◌==◌, true, List, [], ◌∷◌, ◌++◌, get_or, length, max, min, nat_le, sum, if◌then◌else◌};
+ghost use Rattle.std.specs.Prelude.{◌≡◌, ℕ, ◌+◌, ◌-◌, ◌/◌, ◌<◌, ◌≤◌, Bool, ◌&&◌, ◌==◌, true, List, [], ◌∷◌, ◌++◌, get_or, length, max, min, nat_le, sum, if◌then◌else◌};
 ghost use Rattle.std.specs.List.{range_with_len};
 ghost use Rattle.mss_model.specs.Legality.{could_take, some_below};
 ghost use Rattle.mss_model.specs.Limits.{Between};
 ghost use Rattle.mss_model.specs.Occurrences.{offset};
 ghost use Rattle.mss_model.specs.PartsOf.{parts_of};
 ghost use Rattle.mss_model.specs.Percentile.{cumulative};
-ghost use Rattle.mss_model.specs.TableWords.{block_of, day_of, slot_count, specialty_count};
+ghost use Rattle.mss_model.specs.TableWords.{room_count, block_of, day_of, slot_count, specialty_count};
 ghost use Rattle.mss_enclose.specs.Kept.{raised};
 ghost use Rattle.mss_enclose.specs.Unit.{unit};
 ghost use Rattle.mss_enclose.specs.Words.{masses_list, mass_lists};
@@ -14,6 +14,7 @@ ghost use Rattle.mss_thin.specs.SteadyLists.{steady_lists};
 ghost use Rattle.mss_floor.specs.FloorLists.{choices, floor_of, growth, steady_list};
 ghost use Rattle.mss_floor.specs.LowestSums.{AreFull, AreSums, day_choice};
 
+use crate::floors::FLOOR_ROOM;
 use mss_enclose::{Enclosure, MassList, Masses};
 use mss_model::Tables;
 use mss_rules::could_take;
@@ -28,13 +29,13 @@ pub(crate) fn lowest_sums(
     j: u8,
     day: u8,
 ) -> usize
-    requires room { length sums.old ≡ 961 }
+    requires room { length sums.old ≡ FLOOR_ROOM }
     requires lists { mass_lists lists.now ≡ steady_lists (parts_of tables.now).days (block_of (parts_of tables.now) j) }
     requires long { length prefix.now ≤ slot_count (parts_of tables.now) }
     requires specialty { Between 1 (specialty_count (parts_of tables.now)) j }
     ensures sums { AreSums (choices (parts_of tables.now) prefix.now j day) sums.new result }
-    ensures room { length sums.new ≡ 961 }
-    ensures few { result ≤ 961 }
+    ensures room { length sums.new ≡ FLOOR_ROOM }
+    ensures few { result ≤ FLOOR_ROOM }
 {
     let _slots = tables.slots();
     sums.fill(0);
@@ -65,14 +66,14 @@ fn take_day(
     place: u8,
     counts: bool,
 ) -> usize
-    requires room { length sums.old ≡ 961 }
+    requires room { length sums.old ≡ FLOOR_ROOM }
     requires lists { mass_lists lists.now ≡ steady_lists (parts_of tables.now).days (block_of (parts_of tables.now) j) }
     requires place { place < (parts_of tables.now).days }
-    requires few { len ≤ 961 }
+    requires few { len ≤ FLOOR_ROOM }
     ensures sums { (chosen : List (List ℕ)) → AreFull chosen → AreSums chosen sums.old len
         → AreSums (chosen ++ day_choice (parts_of tables.now) j day (place + 1) counts) sums.new result }
-    ensures room { length sums.new ≡ 961 }
-    ensures few { result ≤ 961 }
+    ensures room { length sums.new ≡ FLOOR_ROOM }
+    ensures few { result ≤ FLOOR_ROOM }
 {
     if !counts {
         return len;
@@ -88,13 +89,21 @@ pub(crate) fn adds_none(lists: &MassList, tables: &Tables, prefix: &[u8], j: u8,
     requires specialty { Between 1 (specialty_count (parts_of tables.now)) j }
     ensures { result ≡ true → unit ∷ [] ≡ floor_of (choices (parts_of tables.now) prefix.now j day) }
 {
-    let _slots = tables.slots();
-    for place in 0..tables.days() {
+    for place in first_day(tables, prefix)..tables.days() {
         if adds_none_from(lists, tables, prefix.len() as u32, j, day, place) {
             return true;
         }
     }
     false
+}
+
+/// The day, counted from 0, of the first slot that a prefix leaves undecided.
+fn first_day(tables: &Tables, prefix: &[u8]) -> u8
+    requires { length prefix.now ≤ slot_count (parts_of tables.now) }
+    ensures { result ≡ length prefix.now / room_count (parts_of tables.now) }
+{
+    let _slots = tables.slots();
+    (prefix.len() / usize::from(tables.rooms())) as u8
 }
 
 /// Whether specialty j could take a slot of a day `place`, counted from 0, of those from one on, and nobody of it is there on

@@ -16,11 +16,9 @@ ghost use Rattle.mss_floor.specs.ForcedBlocks.{AreForced, forced};
 
 use crate::floors::{Floors, set_floor};
 use crate::forcing::forced_counts;
+use mss_census::CENSUS_ROOM;
 use mss_enclose::{Count, Enclosure, Kernel, Masses, Scratch};
 use mss_model::Tables;
-
-/// The most numbers of a floored list.
-const MOST_NUMBERS: usize = 15_361;
 
 impl Floors {
     /// Pushes the floors of a prefix at a ward and day onto its list there, and counts the pushes. What comes of it lies at
@@ -40,8 +38,8 @@ impl Floors {
         requires long { length prefix.now ≤ slot_count (parts_of tables.now) }
         requires options { All (λ option. option < option_count (parts_of tables.now)) prefix.now }
         requires day { Between 1 (parts_of tables.now).days day }
-        requires room { E.size value.old ≡ 15361 }
-        requires scratch { scratch_room scratch.old ≡ 15361 }
+        requires room { E.size value.old ≡ CENSUS_ROOM }
+        requires scratch { scratch_room scratch.old ≡ CENSUS_ROOM }
         requires count { count.old + slot_count (parts_of tables.now) ≤ 2 ^ 63 }
         ensures value { E.items value.new ≡ floored_list E.joined (parts_of tables.now) prefix.now ward day (E.items value.old) }
         ensures low { (rest : List ℕ) (level : ℕ) → IsLegal (parts_of tables.now) (prefix.now ++ rest)
@@ -52,8 +50,8 @@ impl Floors {
             → LiesBelow (floored_list lean_convolution (parts_of tables.now) prefix.now ward day list) (census (parts_of tables.now) ward day (prefix.now ++ rest)) }
         ensures count { count.new ≤ count.old + (slot_count (parts_of tables.now) - length prefix.now) }
         ensures same { self.new ≡ self.old }
-        ensures room { E.size value.new ≡ 15361 }
-        ensures scratch { scratch_room scratch.new ≡ 15361 }
+        ensures room { E.size value.new ≡ CENSUS_ROOM }
+        ensures scratch { scratch_room scratch.new ≡ CENSUS_ROOM }
     {
         let blocks = forced_counts(tables, prefix);
         self.push_forced(
@@ -79,14 +77,14 @@ impl Floors {
         requires options { All (λ option. option < option_count (parts_of tables.now)) prefix.now }
         requires blocks { AreForced (parts_of tables.now) prefix.now blocks.now }
         requires day { Between 1 (parts_of tables.now).days day }
-        requires room { E.size value.old ≡ 15361 }
-        requires scratch { scratch_room scratch.old ≡ 15361 }
+        requires room { E.size value.old ≡ CENSUS_ROOM }
+        requires scratch { scratch_room scratch.old ≡ CENSUS_ROOM }
         requires count { count.old + slot_count (parts_of tables.now) ≤ 2 ^ 63 }
         ensures value { E.items value.new ≡ floored_list E.joined (parts_of tables.now) prefix.now ward day (E.items value.old) }
         ensures count { count.new ≤ count.old + (slot_count (parts_of tables.now) - length prefix.now) }
         ensures same { self.new ≡ self.old }
-        ensures room { E.size value.new ≡ 15361 }
-        ensures scratch { scratch_room scratch.new ≡ 15361 }
+        ensures room { E.size value.new ≡ CENSUS_ROOM }
+        ensures scratch { scratch_room scratch.new ≡ CENSUS_ROOM }
     {
         let mut left = tables.slots() - prefix.len() as u32;
         for j in 0..tables.specialties() {
@@ -128,8 +126,8 @@ impl Floors {
         requires blocks { AreForced (parts_of tables.now) prefix.now blocks.now }
         requires specialty { Between 1 (specialty_count (parts_of tables.now)) j }
         requires day { Between 1 (parts_of tables.now).days day }
-        requires room { E.size value.old ≡ 15361 }
-        requires scratch { scratch_room scratch.old ≡ 15361 }
+        requires room { E.size value.old ≡ CENSUS_ROOM }
+        requires scratch { scratch_room scratch.old ≡ CENSUS_ROOM }
         requires count { count.old + left ≤ 2 ^ 63 }
         ensures pushed { (fs : List (List ℕ)) →
             joined_all E.joined (E.items value.old) (fitting left (length (E.items value.old))
@@ -138,8 +136,8 @@ impl Floors {
             ≡ joined_all E.joined (E.items value.new) (fitting result (length (E.items value.new)) fs) }
         ensures count { count.new + result ≤ count.old + left }
         ensures same { self.new ≡ self.old }
-        ensures room { E.size value.new ≡ 15361 }
-        ensures scratch { scratch_room scratch.new ≡ 15361 }
+        ensures room { E.size value.new ≡ CENSUS_ROOM }
+        ensures scratch { scratch_room scratch.new ≡ CENSUS_ROOM }
     {
         if tables.ward_of(j) != ward {
             return left;
@@ -171,15 +169,15 @@ fn push_copies<E: Enclosure, K: Kernel>(
     left: u32,
     count: &mut Count,
 ) -> u32
-    requires room { E.size value.old ≡ 15361 }
-    requires scratch { scratch_room scratch.old ≡ 15361 }
+    requires room { E.size value.old ≡ CENSUS_ROOM }
+    requires scratch { scratch_room scratch.old ≡ CENSUS_ROOM }
     requires count { count.old + left ≤ 2 ^ 63 }
     ensures pushed { (fs : List (List ℕ)) →
         joined_all E.joined (E.items value.old) (fitting left (length (E.items value.old)) (replicate blocks (masses_list floor.now) ++ fs))
         ≡ joined_all E.joined (E.items value.new) (fitting result (length (E.items value.new)) fs) }
     ensures count { count.new + result ≤ count.old + left }
-    ensures room { E.size value.new ≡ 15361 }
-    ensures scratch { scratch_room scratch.new ≡ 15361 }
+    ensures room { E.size value.new ≡ CENSUS_ROOM }
+    ensures scratch { scratch_room scratch.new ≡ CENSUS_ROOM }
 {
     let mut left = left;
     for _i in 0..blocks.min(left) {
@@ -198,19 +196,19 @@ fn push_one<E: Enclosure, K: Kernel>(
     left: u32,
     count: &mut Count,
 ) -> u32
-    requires room { E.size value.old ≡ 15361 }
-    requires scratch { scratch_room scratch.old ≡ 15361 }
+    requires room { E.size value.old ≡ CENSUS_ROOM }
+    requires scratch { scratch_room scratch.old ≡ CENSUS_ROOM }
     requires count { count.old + left ≤ 2 ^ 63 }
     ensures pushed { (fs : List (List ℕ)) →
         joined_all E.joined (E.items value.old) (fitting left (length (E.items value.old)) (masses_list floor.now ∷ fs))
         ≡ joined_all E.joined (E.items value.new) (fitting result (length (E.items value.new)) fs) }
     ensures count { count.new + result ≤ count.old + left }
     ensures fewer { result < max 1 left }
-    ensures room { E.size value.new ≡ 15361 }
-    ensures scratch { scratch_room scratch.new ≡ 15361 }
+    ensures room { E.size value.new ≡ CENSUS_ROOM }
+    ensures scratch { scratch_room scratch.new ≡ CENSUS_ROOM }
 {
     let length = value.list().len() + floor.len() as usize;
-    if left == 0 || length > MOST_NUMBERS + 1 {
+    if left == 0 || length > CENSUS_ROOM + 1 {
         return 0;
     }
     value.push_counted(kernel, floor, scratch, count);

@@ -5,13 +5,13 @@ ghost use Rattle.mss_model.specs.TableWords.{slot_count, option_count};
 ghost use Rattle.mss_model.specs.PartsOf.{parts_of};
 ghost use Rattle.mss_floor.specs.FlooredLists.{floored_census};
 ghost use Rattle.mss_bounds.specs.BounderView.{IsBounderOf};
-ghost use Rattle.mss_bounds.specs.Children.{AreLows, idle_sibling};
+ghost use Rattle.mss_bounds.specs.Children.{IsIdleChild, idle_sibling};
 ghost use Rattle.mss_bounds.specs.PrefixBound.{bound_of};
 ghost use Rattle.mss_cert.specs.declared.certificate.Line.TheVariants.{Dead, OpenAt};
 ghost use Rattle.mss_search.specs.Kids.{fresh_line, kid_lines, HasKids};
 
 use crate::queue::{Queue, Waiting};
-use mss_bounds::{Bound, Bounder};
+use mss_bounds::{Bound, Bounder, IdleChild};
 use mss_cert::Line;
 use mss_enclose::{Enclosure, Kernel};
 use mss_model::{NoMemory, Tables};
@@ -38,26 +38,26 @@ pub(crate) fn fresh_line<E: Enclosure, K: Kernel, R: Rules>(
     }
 }
 
-/// The same of a prefix with a last option, where the low numbers of the prefix that is idle there are known.
+/// The same of a prefix with a last option, where the prefix that is idle there is known.
 fn kid_line<E: Enclosure, K: Kernel, R: Rules>(
     tables: &Tables,
     kernel: &K,
     rules: &R,
     bounder: &mut Bounder<E>,
     child: &[u8],
-    lows: &[u32; 224],
+    idle: &IdleChild,
 ) -> Line
     requires tables { IsBounderOf (parts_of tables.now) bounder.old }
     requires some { 0 < length child.now }
     requires long { length child.now ≤ slot_count (parts_of tables.now) }
     requires options { All (λ option. option < option_count (parts_of tables.now)) child.now }
-    requires lows { AreLows (floored_census E.joined) E.low_of (parts_of tables.now) (idle_sibling child.now) lows.now }
+    requires idle { IsIdleChild (floored_census E.joined) E.low_of (parts_of tables.now) (idle_sibling child.now) idle.now }
     ensures line { result ≡ fresh_line (R.rule (parts_of tables.now)) (bound_of (floored_census E.joined) E.low_of (parts_of tables.now)) child.now }
     ensures bounder { IsBounderOf (parts_of tables.now) bounder.new }
 {
     match rules.dead(tables, child) {
         Some(rule) => dead_line(rule),
-        None => open_line(bounder.child_bound(kernel, tables, child, lows)),
+        None => open_line(bounder.child_bound(kernel, tables, child, idle)),
     }
 }
 
@@ -106,12 +106,12 @@ pub(crate) fn kid_lines<E: Enclosure, K: Kernel, R: Rules>(
     ensures lines { IfOk result (λ v. v.items ≡ kid_lines (R.rule (parts_of tables.now)) (bound_of (floored_census E.joined) E.low_of (parts_of tables.now)) (option_count (parts_of tables.now)) prefix.now) }
     ensures bounder { IsBounderOf (parts_of tables.now) bounder.new }
 {
-    let idle = child_of(alloc, prefix, 0)?;
-    let lows = bounder.idle_lows(kernel, tables, idle.as_slice());
+    let first = child_of(alloc, prefix, 0)?;
+    let idle = bounder.idle_child(kernel, tables, first.as_slice());
     let mut lines = Vec::with_capacity(alloc, usize::from(tables.specialties()) + 1)?;
     for option in 0..tables.specialties() + 1 {
         let child = child_of(alloc, prefix, option)?;
-        lines.push(kid_line(tables, kernel, rules, bounder, child.as_slice(), &lows))?;
+        lines.push(kid_line(tables, kernel, rules, bounder, child.as_slice(), &idle))?;
     }
     Ok(lines)
 }

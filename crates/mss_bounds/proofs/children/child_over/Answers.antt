@@ -23,8 +23,8 @@ loop-place-init g c = record {
   counted = omega arith;
 }
 
-pub bounds-lows-place : goal.bounds-lows-place
-bounds-lows-place g c = omega (arith, places-few (parts_of c.args.tables.now) c.args.tables.now.good, ap length c.requires.spots, length-map c.args.spots.now place_of)
+pub bounds-idle-place : goal.bounds-idle-place
+bounds-idle-place g c = omega (arith, places-few (parts_of c.args.tables.now) c.args.tables.now.good, ap length c.requires.spots, length-map c.args.spots.now place_of)
 
 pub child_low-low-requires-clause-tables : goal.child_low-low-requires-clause-tables
 child_low-low-requires-clause-tables g c = c.loop-place.invariant.lists ∙ c.requires.tables
@@ -49,7 +49,7 @@ child_low-low-requires-clause-idle g c =
     let t : TableParts = parts_of c.args.tables.now in
     let E = g.E.Enclosure in
     let i : ℕ = c.loop-place.place in
-    c.requires.lows i (omega (arith, ap length c.requires.spots, length-map c.args.spots.now place_of))
+    c.requires.idle.lows i (omega (arith, ap length c.requires.spots, length-map c.args.spots.now place_of))
     ∙ ap (low_number (floored_census E.joined) E.low_of t (idle_sibling c.args.child.now)) (place-there t c.args.spots.now i c.requires.spots (omega arith))
 
 pub child_low-low-requires-clause-floors : goal.child_low-low-requires-clause-floors

@@ -69,9 +69,13 @@ loop-place-preserved g c =
           c.low-low.ensures.count refl c.loop-place.invariant.counted;
     }
 
-pub returns-clause-lows : goal.returns-clause-lows
-returns-clause-lows g c = λ i l.
+pub returns-clause-idle : goal.returns-clause-idle
+returns-clause-idle g c =
     let t : TableParts = parts_of c.args.tables.now in
     let E = g.E.Enclosure in
-    let inside : i < length c.args.spots.now = omega (arith, l, ap length c.requires.spots, length-map c.args.spots.now place_of) in
-    c.loop-place.invariant.lows i (omega (arith, inside)) ∙ ap (low_number (floored_census E.joined) E.low_of t c.args.idle.now) (sym (place-there t c.args.spots.now i c.requires.spots inside))
+    record {
+      lows = λ i l.
+          let inside : i < length c.args.spots.now = omega (arith, l, ap length c.requires.spots, length-map c.args.spots.now place_of) in
+          c.loop-place.invariant.lows i (omega (arith, inside)) ∙ ap (low_number (floored_census E.joined) E.low_of t c.args.idle.now) (sym (place-there t c.args.spots.now i c.requires.spots inside));
+      blocks = c.forced_counts-blocks.ensures;
+    }

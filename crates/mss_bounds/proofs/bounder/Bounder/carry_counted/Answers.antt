@@ -1,4 +1,5 @@
-use Rattle.std.proofs.Common.{◌≡◌, ◌∙◌, ◌-◌, ℕ, List, length, ap, sym, subst, take, refl, arith}
+use Rattle.std.proofs.Common.{◌≡◌, ◌∙◌, ◌-◌, ℕ, List, length, ap, sym, subst, take, refl, arith, Some}
+use Rattle.std.specs.Prelude.{slice_get}
 use Rattle.std.proofs.lemmas.List.{length-map}
 use Rattle.lru.specs.LruCache.{last_entry}
 use Rattle.mss_model.specs.declared.parts.TableParts.{TableParts}
@@ -9,6 +10,7 @@ use Rattle.mss_bounds.specs.Spots.{place_of, places_of}
 use Rattle.mss_bounds.specs.CarriedLists.{CarriedView, IsHeld, prefix_at, prefixes_of, started}
 use Rattle.mss_bounds.specs.CarriedPrefixes.{longest, brought, carried_after}
 use Rattle.mss_bounds.specs.BounderView.{BounderView, IsCarrying}
+use Rattle.mss_bounds.proofs.CarriedChoice.{same-bytes, front-is, front-stays}
 use Rattle.mss_bounds.proofs.CarriedOn.{brought-carrying, after-brought, carrying-of, start-held, begun, filled-held, some-place, exchanged, after-exchanged, count-as}
 use Rattle.mss_bounds.proofs.bounder.Bounder.carry_counted.Goals as goal
 
@@ -89,3 +91,14 @@ returns-clause-count g c =
     start.0 ∙ c.longest-len.ensures.value ∙ ap (λ (v : BounderView). longest c.args.prefix.now v.carried) c.self.view_is in
     count-as c.fill.new.count c.args.count.now (length c.deref.result.now) (length (peak_places t)) (length c.args.prefix.now - length (started c.start_of.result))
     (length c.args.prefix.now - longest c.args.prefix.now c.args.self.now.carried) c.fill.ensures.count places (ap (λ n. length c.args.prefix.now - n) from)
+
+-- it was in front
+pub returns-then-eq-clause-order : goal.returns-then-eq-clause-order
+returns-then-eq-clause-order g c =
+    let inside = c.self.inside in
+    let p : List ℕ = c.args.prefix.now in
+    let same : c.front.result.now.prefix ≡ c.args.prefix.now =
+    sym c.prefix.ensures ∙ same-bytes c.prefix.result.now c.args.prefix.now (sym c.eq.ensures ∙ c.if-eq.true) in
+    let first : slice_get (prefixes_of inside.cache.entries) 0 ≡ Some c.args.prefix.now = front-is inside.cache.entries c.front.result.now c.front.ensures ∙ ap Some same in
+    ap (λ (v : BounderView). v.carried) (sym c.self.view_is) ∙ sym (front-stays p (prefixes_of inside.cache.entries) first)
+    ∙ ap (λ (v : BounderView). carried_after p v.carried) c.self.view_is

@@ -13,7 +13,7 @@ use Rattle.mss_bounds.specs.Children.{parent_of}
 use Rattle.mss_bounds.proofs.CarriedChoice.{after-front}
 use Rattle.mss_bounds.proofs.CarriedOn.{at-held, carrying-of, front-prefix}
 use Rattle.mss_bounds.proofs.FilledLists.{carried-pushes}
-use Rattle.mss_bounds.proofs.bounder.Bounder.idle_lows.Goals as goal
+use Rattle.mss_bounds.proofs.bounder.Bounder.idle_child.Goals as goal
 
 -- the front place has the lists of its prefix
 pub idle_over-requires-clause-held : goal.idle_over-requires-clause-held
