@@ -1,15 +1,15 @@
 -- What a question comes to, from the files that were gathered and its own file as it was read.
-use Rattle.std.proofs.Common.{◌≡◌, ◌≤◌, ◌⊎◌, ℕ, List, Bool, Option, Some, None, Ok, inl, inr, refl, sym, ap, subst, ◌∙◌, arith}
+use Rattle.std.proofs.Common.{◌≡◌, ◌≤◌, ◌⊎◌, ℕ, List, [], Bool, Option, Some, None, Ok, inl, inr, refl, sym, ap, subst, ◌∙◌, arith}
 use Rattle.std.specs.Prelude.{IsTrue}
 use Rattle.mss_model.specs.PartsOf.{parts_of}
 use Rattle.mss_model.specs.declared.parts.TableParts.{TableParts}
 use Rattle.mss_model.specs.declared.table_set.Tables.{Tables}
-use Rattle.mss_desk.specs.Desk.{Content, Files, IfTold, Rose}
+use Rattle.mss_desk.specs.Desk.{Content, Files, IfTold, IsMissing, Rose}
 use Rattle.mss_command.specs.declared.status.Status.{Status}
 use Rattle.mss_command.specs.declared.status.Status.TheVariants as statuses
 use Rattle.mss_command.specs.declared.tables.Judged.TheVariants as judged
 use Rattle.mss_command.specs.Answers.{IsLacking}
-use Rattle.mss_command.specs.Fetched.{Fetched}
+use Rattle.mss_command.specs.Fetched.{Fetched, Bytes, within}
 use Rattle.mss_command.specs.Gathered.{Gathered, gathered}
 use Rattle.mss_command.specs.Judging.{Judges, RefusesTables}
 use Rattle.mss_command.specs.Outcome.{Outcome}
@@ -34,6 +34,18 @@ ends_asking may_answer statuses.NoMemory h = h
 -- the tables that were made of gathered files are those on the desk
 made_on : (files : Files) (g : Gathered) (tables : Tables) → gathered files ≡ g → Judges g (judged.Tables tables) → tables_on files ≡ Some (Ok (parts_of tables))
 made_on files g tables is h = ap tables_gathered is ∙ h
+
+-- a file that isn't there is one that a question lacks
+pub unwanted_cause : (first now : ℕ) (name : List ℕ) (limit : ℕ) (t : Option Content) → Rose first now ⊎ IsMissing t name
+    → Rose first now ⊎ IsUnwanted (Some name) limit t
+unwanted_cause first now name limit t (inl rose) = inl rose
+unwanted_cause first now name limit (Some c) (inr missing) = inr (ap (within limit) missing)
+unwanted_cause first now name limit None (inr missing) = absurd missing
+
+-- where no file is wanted, no bytes are read
+pub no_bytes : (t : Option Content) (limit : ℕ) (bytes : List ℕ) → bytes ≡ [] → IfTold t (λ c. wanted None limit c.files ≡ Bytes bytes)
+no_bytes (Some c) limit bytes none = ap Bytes (sym none)
+no_bytes None limit bytes none = tt
 
 module _ (answers : TableParts → Fetched → Outcome → Type 0) (name : Option (List ℕ)) (limit : ℕ) where
   -- the tables are refused

@@ -1,13 +1,14 @@
 -- A file as it is read.
 use Rattle.std.specs.Prelude.{ℕ, ◌≤◌, List, length, Option, Some, None, ltb, if◌then◌else◌}
 use Rattle.std.specs.FinMap.{get}
+use Rattle.mss_model.specs.declared.files.TheConstants.{MOST_BYTES}
 use Rattle.mss_desk.specs.Desk.{Files}
 use Rattle.mss_command.specs.declared.reading.Contents.{Contents}
 use Rattle.mss_command.specs.declared.reading.Contents.TheVariants as contents
 
 -- the most bytes of a file of the tables, of block.csv or of cycle.csv
 abbrev pub file_limit : ℕ
-file_limit = 4194304
+file_limit = MOST_BYTES
 
 -- not there, longer than its limit, or its bytes
 pub data Fetched : Type 0 where

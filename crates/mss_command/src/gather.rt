@@ -6,8 +6,7 @@ ghost use Rattle.mss_command.specs.Gathered.{AreWithinLimit, IsOneMissing, gathe
 use crate::reading::{Contents, fetch};
 use crate::reply::Stop;
 use mss_desk::Desk;
-use mss_model::{TABLE_FILES, file_name};
-use mss_rows::MOST_BYTES;
+use mss_model::{MOST_BYTES, TABLE_FILES, file_name};
 use mss_tables::TableFiles;
 use std::alloc::Global;
 

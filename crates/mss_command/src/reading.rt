@@ -8,7 +8,7 @@ use mss_desk::{Desk, ReadAnswer};
 use std::alloc::Global;
 
 /// What a reading gave.
-#[derive(Debug, Drop)]
+#[derive(Drop)]
 pub enum Contents {
     Bytes(Vec<u8>),
     /// The file is longer than its limit.

@@ -8,14 +8,14 @@ use mss_model::{NoMemory, Text};
 use std::alloc::{AllocError, AllocFailed, Global};
 
 /// A file to put.
-#[derive(Debug, Drop)]
+#[derive(Drop)]
 pub struct Put {
     pub name: &'static str,
     pub bytes: Text,
 }
 
 /// What a command comes to: its status, the files to put, and then the text to say.
-#[derive(Debug, Drop)]
+#[derive(Drop)]
 pub struct Reply {
     pub status: Status,
     pub puts: Vec<Put>,
@@ -36,7 +36,7 @@ impl Reply {
 }
 
 /// Why a command comes to no reply.
-#[derive(Clone, Copy, Debug, PartialEq, Eq)]
+#[derive(Clone, Copy)]
 pub enum Stop {
     /// A file couldn't be read.
     Read,

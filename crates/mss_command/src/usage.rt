@@ -11,7 +11,7 @@ use mss_model::Text;
 use std::alloc::Global;
 
 /// The usage text of a program, which is said where the words are no command of it.
-#[derive(Clone, Copy, Debug)]
+#[derive(Clone, Copy)]
 pub struct Usage {
     pub text: &'static [u8],
 }

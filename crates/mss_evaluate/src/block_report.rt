@@ -11,9 +11,8 @@ ghost use Rattle.mss_evaluate.specs.BlockLaws.{block_keeps};
 use mss_command::{Command, Contents, Reply, Status, Stop, fetch, long_refusal, table_refusal};
 use mss_desk::Desk;
 use mss_enclose::Kernel;
-use mss_model::{BLOCK_FILE, NoMemory};
+use mss_model::{BLOCK_FILE, MOST_BYTES, NoMemory};
 use mss_report::block_text;
-use mss_rows::MOST_BYTES;
 use mss_tables::{TableRefusal, read_block};
 use std::alloc::Global;
 

@@ -18,9 +18,8 @@ use mss_command::{
 };
 use mss_desk::Desk;
 use mss_enclose::Kernel;
-use mss_model::{Cycle, NoMemory, Tables, Text};
+use mss_model::{Cycle, MOST_BYTES, NoMemory, Tables, Text};
 use mss_report::{evaluate_json, evaluate_text};
-use mss_rows::MOST_BYTES;
 use std::alloc::Global;
 
 /// In which form a report is said.

@@ -14,7 +14,7 @@ use mss_pctl::push_named;
 use std::alloc::Global;
 
 /// The numbers of a search for the cycle with the least peak, in patients.
-#[derive(Clone, Copy, Debug, PartialEq, Eq)]
+#[derive(Clone, Copy)]
 pub struct PlanSummary {
     /// The best cycle peaks at most at this number; none where the search found no legal cycle.
     pub upper: Option<u32>,

@@ -15,8 +15,7 @@ use mss_command::{Command, Contents, JudgedCycle, Question, Reply, Stop, ask, ju
 use mss_desk::Desk;
 use mss_enclose::Kernel;
 use mss_local::{Effort, Progress};
-use mss_model::{NoMemory, Tables};
-use mss_rows::MOST_BYTES;
+use mss_model::{MOST_BYTES, NoMemory, Tables};
 use std::alloc::Global;
 
 /// The best cycle that a local search finds from the legal one of cycle.csv, with its report.

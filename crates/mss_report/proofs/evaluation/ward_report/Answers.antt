@@ -27,7 +27,9 @@ loop-day-preserved g c =
     record {
       first = omega arith;
       last = omega (arith, c.days-day-end.ensures.value);
-      census = ap (λ (v : CensusView). v.lists) c.in_ok-report.ensures.census ∙ c.loop-day.invariant.census;
+      census = ap (λ (v : CensusView). v.lists)
+          {y = record { lists = c.loop-day.workload.census.lists; ward = c.args.ward; day = c.loop-day.day; options = c.args.cycle.now }} c.in_ok-report.ensures.census
+          ∙ c.loop-day.invariant.census;
       moves = c.in_ok-report.ensures.moves ∙ c.loop-day.invariant.moves;
       days = one-more (day_report t c.args.cycle.now c.args.ward) c.loop-day.day c.loop-day.days.items c.push.new.self.items c.in_ok-report.report
           c.loop-day.invariant.first c.loop-day.invariant.days c.in_ok-report.ensures.value c.in_ok-push.ensures.items;
