@@ -5,10 +5,10 @@
 // The word `alike` stands for `mss plan alike`. Other words change the bounds, and nothing else: `empty` makes each bound
 // from the empty prefix, and `orphans` each from the longest carried prefix, where the children of a prefix go on from its
 // lists, and from the low numbers of its idle child on all wards but that of their last option; `unfloored` bounds without
-// floors, and writes version 1. On standard error it says how many bounds it made, how often they called the convolution,
+// floors, and writes version 1. On standard error it says the microseconds of the search alone, how many bounds it made, how often they called the convolution,
 // and how often the last options of all bounded prefixes alone would call it, below which no carried lists can go.
 mod plain;
-use plain::floors::{Floors, forced};
+use plain::floors::{Floors, forced, forced_of};
 use plain::lists::{self, CALLS, Lists, UNIT, first_reaching, peak_of, push_full};
 use plain::report::{report, report_text};
 use plain::rules::{dead, dead_alike};
@@ -17,6 +17,7 @@ use std::cmp::Reverse;
 use std::collections::BinaryHeap;
 use std::fmt::Write as _;
 use std::io::Write as _;
+use std::time::Instant;
 
 const PLACES: usize = 16;
 
@@ -90,8 +91,9 @@ struct Bounder<'a> {
     value: Vec<u64>,
     raised: Vec<u64>,
     scratch: Vec<u64>,
-    // those of the idle child
+    // the low numbers of the idle child, and the blocks that it forces
     lows: Vec<u32>,
+    idle_forced: Vec<u32>,
     bounds: u64,
     calls: u64,
     least: u64,
@@ -112,7 +114,7 @@ impl<'a> Bounder<'a> {
         let make = || Carried::make(tables.slots(), spots.len(), room);
         let (carried, working) = ((0..PLACES).map(|_| make()).collect(), make());
         let value = || Vec::with_capacity(ROOM);
-        Bounder { tables, lists, carried, working, spots, how, dead, floors, value: value(), raised: value(), scratch: value(), lows: vec![], bounds: 0, calls: 0, least: 0 }
+        Bounder { tables, lists, carried, working, spots, how, dead, floors, value: value(), raised: value(), scratch: value(), lows: vec![], idle_forced: vec![], bounds: 0, calls: 0, least: 0 }
     }
 
     fn longest(&self, prefix: &[u8]) -> usize {
@@ -144,6 +146,9 @@ impl<'a> Bounder<'a> {
 
     // Brings the prefix and its lists to the front place.
     fn carry(&mut self, prefix: &[u8]) {
+        if self.carried[0].prefix == prefix {
+            return;
+        }
         let len = self.longest(prefix);
         let found = self.carried.iter().position(|it| it.prefix == prefix[..len]);
         if let Some(at) = found {
@@ -194,8 +199,8 @@ impl<'a> Bounder<'a> {
         (tables.allow[ward] + first_reaching(value, 0, tables.level)) as u32
     }
 
-    // The low numbers of the child whose last slot is idle, which has the lists of its parent.
-    fn take_idle_lows(&mut self, parent: &[u8]) {
+    // The low numbers of the child whose last slot is idle, which has the lists of its parent, and what it forces.
+    fn take_idle_child(&mut self, parent: &[u8]) {
         let before = calls();
         self.carry(parent);
         let idle = child_of(parent, 0);
@@ -205,20 +210,35 @@ impl<'a> Bounder<'a> {
             let number = self.low(&idle, &forced, at, None);
             self.lows.push(number);
         }
+        self.idle_forced = forced;
         self.calls += calls() - before;
     }
 
-    // The bound of a child, where the low numbers of its idle sibling are known.
+    // The blocks that a child forces: those of its idle sibling, but for the specialty of its last option.
+    fn child_forced(&mut self, child: &[u8], option: u8) -> Vec<u32> {
+        let mut forced = std::mem::take(&mut self.idle_forced);
+        if option > 0 && self.floors.is_some() {
+            forced[option as usize - 1] = forced_of(self.tables, child, option as usize - 1);
+        }
+        forced
+    }
+
+    // The bound of a child, where its idle sibling is known.
     fn child_bound(&mut self, child: &[u8]) -> Bound {
         let (parent, option) = (&child[..child.len() - 1], child[child.len() - 1]);
         self.carry(parent);
         let ward = if option == 0 { 0 } else { self.tables.ward_of[option as usize] };
-        let forced = self.forced(child);
+        let kept = self.idle_forced.get((option as usize).wrapping_sub(1)).copied();
+        let mut forced = self.child_forced(child, option);
         let mut bound = Bound::none();
         for at in 0..self.spots.len() {
             let number = if self.spots[at].0 == ward { self.low(child, &forced, at, Some((parent.len(), option))) } else { self.lows[at] };
             bound.take(number, self.spots[at]);
         }
+        if let Some(kept) = kept {
+            forced[option as usize - 1] = kept;
+        }
+        self.idle_forced = forced;
         bound
     }
 
@@ -227,7 +247,7 @@ impl<'a> Bounder<'a> {
         if rule != 0 {
             return Line::Dead { rule: u32::from(rule) };
         }
-        self.least += prefix.last().map_or(0, |option| self.calls_for(*option));
+        self.least += prefix.last().map_or(0, |option| self.calls_for(prefix.len() - 1, *option));
         let before = calls();
         let bound = if self.how == How::Carried && !prefix.is_empty() { self.child_bound(prefix) } else { self.bound(prefix) };
         self.bounds += 1;
@@ -235,9 +255,10 @@ impl<'a> Bounder<'a> {
         Line::Open { bound }
     }
 
-    // How many places an option adds to.
-    fn calls_for(&self, option: u8) -> u64 {
-        if option > 0 && self.tables.watched[self.tables.ward_of[option as usize]] { self.tables.days as u64 } else { 0 }
+    // At how many places patients of an option may be there.
+    fn calls_for(&self, slot: usize, option: u8) -> u64 {
+        let part = |(ward, day): &(usize, usize)| lists::part(self.tables, &self.lists, *ward, *day, slot, option);
+        self.spots.iter().filter(|spot| part(spot).is_some_and(|part| part.len() > 1)).count() as u64
     }
 }
 
@@ -301,7 +322,7 @@ impl Search {
         let (first, after) = (self.nodes.len(), self.nodes[taken.node].next);
         let count = bounder.tables.specialties.len() + 1;
         if bounder.how == How::Carried {
-            bounder.take_idle_lows(&taken.options);
+            bounder.take_idle_child(&taken.options);
         }
         for option in 0..count {
             let options = child_of(&taken.options, option as u8);
@@ -366,11 +387,13 @@ fn main() {
     let floors = (!has("unfloored")).then(Floors::default);
     let version = if floors.is_some() { 2 } else { 1 };
     let mut bounder = Bounder::make(&tables, how, if has("alike") { dead_alike } else { dead }, floors);
+    let begun = Instant::now();
     let mut search = Search::start(&mut bounder);
     let (mut value, mut scratch) = (vec![], vec![]);
     while search.turns < tables.budget && !search.queue.is_empty() {
         search.turn(&mut bounder, &mut value, &mut scratch);
     }
+    let taken = begun.elapsed().as_micros();
     let (certificate, lower) = search.certificate(&tables, version);
     let (spent, upper) = (!search.queue.is_empty(), search.best.as_ref().map(|best| best.0));
     let (word, status) = match (spent, upper) {
@@ -387,6 +410,6 @@ fn main() {
     std::fs::write("planned.csv", planned).unwrap();
     std::fs::write("certificate.txt", certificate).unwrap();
     std::io::stdout().write_all(text.as_bytes()).unwrap();
-    eprintln!("bounds {} calls {} least {}", bounder.bounds, bounder.calls, bounder.least);
+    eprintln!("search {taken} bounds {} calls {} least {}", bounder.bounds, bounder.calls, bounder.least);
     std::process::exit(status);
 }

@@ -6,23 +6,31 @@ use super::tables::Tables;
 // The most numbers of a list with its floors.
 const MOST: usize = 15_361;
 
-// How many blocks of each specialty, from 0 on, a prefix forces.
+// How many blocks of a specialty, from 0 on, a prefix forces, where it gave it so many minutes.
+fn forced_from(t: &Tables, prefix: &[u8], j: usize, got: u32) -> u32 {
+    let longer = |longest, slot| if t.minutes[slot] > longest && could_take(t, slot, j) { t.minutes[slot] } else { longest };
+    match t.low[j].saturating_sub(got) {
+        0 => 0,
+        missing => match (prefix.len()..t.slots()).fold(0, longer) {
+            0 => 0,
+            minutes => missing.div_ceil(minutes),
+        },
+    }
+}
+
+// The same of one specialty alone.
+pub fn forced_of(t: &Tables, prefix: &[u8], j: usize) -> u32 {
+    let given = prefix.iter().enumerate().filter(|(_, option)| **option as usize == j + 1);
+    forced_from(t, prefix, j, given.map(|(slot, _)| t.minutes[slot]).sum())
+}
+
+// The same of each specialty.
 pub fn forced(t: &Tables, prefix: &[u8]) -> Vec<u32> {
     let mut got = vec![0; t.specialties.len() + 1];
     for (slot, option) in prefix.iter().enumerate() {
         got[*option as usize] += t.minutes[slot];
     }
-    let undecided = prefix.len()..t.slots();
-    let longer = |j, longest, slot| if t.minutes[slot] > longest && could_take(t, slot, j) { t.minutes[slot] } else { longest };
-    let longest = |j| undecided.clone().fold(0, |longest, slot| longer(j, longest, slot));
-    let blocks = |j: usize| match t.low[j].saturating_sub(got[j + 1]) {
-        0 => 0,
-        missing => match longest(j) {
-            0 => 0,
-            minutes => missing.div_ceil(minutes),
-        },
-    };
-    (0..t.specialties.len()).map(blocks).collect()
+    (0..t.specialties.len()).map(|j| forced_from(t, prefix, j, got[j + 1])).collect()
 }
 
 #[derive(Default)]
@@ -40,7 +48,7 @@ impl Floors {
         let open = |q: &usize| (q * rooms..(q + 1) * rooms).any(|slot| slot >= prefix.len() && could_take(t, slot, j));
         let list_from = |q: usize| &lists[j + 1][(day + t.days - (q + 1)) % t.days];
         // the list of no patients is the least
-        if (0..t.days).any(|q| list_from(q).len() == 1 && open(&q)) {
+        if (prefix.len() / rooms..t.days).any(|q| list_from(q).len() == 1 && open(&q)) {
             floor.clear();
             floor.push(UNIT);
             return;

@@ -74,8 +74,11 @@ pub fn rest(list: &[u64]) -> u64 {
     UNIT - list.iter().sum::<u64>()
 }
 
-// Full lists: a push puts the rest of the part and of the convolution on outcome 0.
+// Full lists: a push puts the rest of the part and of the convolution on outcome 0. So a part of one number changes nothing.
 pub fn push_full(value: &mut Vec<u64>, part: &[u64], raised: &mut Vec<u64>, scratch: &mut Vec<u64>) {
+    if part.len() == 1 {
+        return;
+    }
     raised.clear();
     raised.extend_from_slice(part);
     raised[0] += rest(raised);
