@@ -5,8 +5,9 @@
 // The word `alike` stands for `mss plan alike`. Other words change the bounds, and nothing else: `empty` makes each bound
 // from the empty prefix, and `orphans` each from the longest carried prefix, where the children of a prefix go on from its
 // lists, and from the low numbers of its idle child on all wards but that of their last option; `unfloored` bounds without
-// floors, and writes version 1. On standard error it says the microseconds of the search alone, how many bounds it made, how often they called the convolution,
-// and how often the last options of all bounded prefixes alone would call it, below which no carried lists can go.
+// floors, and writes version 1. On standard error it says the microseconds of the search alone, how many bounds it made, how
+// often they called the convolution, and how often the last options of all bounded prefixes alone would call it, below which
+// no carried lists can go.
 mod plain;
 use plain::floors::{Floors, forced, forced_of};
 use plain::lists::{self, CALLS, Lists, UNIT, first_reaching, peak_of, push_full};
