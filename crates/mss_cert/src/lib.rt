@@ -10,7 +10,7 @@ mod reading;
 mod verdict;
 mod writing;
 
-pub use certificate::{Certificate, End, Line};
+pub use certificate::{Certificate, End, Line, MOST_CERTIFICATE_BYTES};
 pub use faults::{CertFault, CertKind, CertRefusal};
 pub use lines::Lines;
 pub use reading::read;

@@ -12,6 +12,7 @@ use Rattle.mss_cert.specs.declared.verdict.Verdict.{Verdict}
 use Rattle.mss_cert.specs.declared.verdict.Verdict.TheVariants.{Yes, No}
 use Rattle.mss_cert.specs.CertificateFaults.{IsFaultAt}
 use Rattle.mss_cert.specs.CertificateText.{IsShort, certificate_text}
+use Rattle.mss_cert.specs.declared.certificate.TheConstants.{MOST_CERTIFICATE_BYTES}
 use Rattle.mss_check.specs.Tree.{end_of}
 use Rattle.mss_check.specs.Validity.{IsValid, Proves, peak_at_level, verdict_of}
 use Rattle.mss_report.specs.CertificateTexts.{cert_fault_text_of, verdict_text_of}
@@ -28,7 +29,7 @@ certificate_file = codes "certificate.txt"
 
 -- the most bytes of certificate.txt
 abbrev pub certificate_limit : ℕ
-certificate_limit = 67108864
+certificate_limit = MOST_CERTIFICATE_BYTES
 
 -- ---- what is said
 

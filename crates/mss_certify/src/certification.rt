@@ -18,7 +18,9 @@ ghost use Rattle.mss_certify.specs.Check.{CheckDefines, SaysTrue, VerdictDefines
 ghost use Rattle.mss_certify.specs.CheckLaws.{check_keeps};
 
 use mss_alike::{Canonical, RuleSet};
-use mss_cert::{CertFault, CertKind, CertRefusal, Certificate, Verdict, read};
+use mss_cert::{
+    CertFault, CertKind, CertRefusal, Certificate, MOST_CERTIFICATE_BYTES, Verdict, read,
+};
 use mss_check::check;
 use mss_command::{Command, Contents, Question, Reply, Status, Stop, ask};
 use mss_desk::Desk;
@@ -33,9 +35,6 @@ use std::alloc::Global;
 pub struct Certification {
     pub rules: RuleSet,
 }
-
-/// The most bytes of certificate.txt.
-const MOST_BYTES: usize = 67_108_864;
 
 /// The fault of a file that is longer than its limit.
 const TOO_LONG: CertFault = CertFault {
@@ -57,7 +56,7 @@ impl Question for Certification {
     }
 
     fn most_bytes(&self) -> usize {
-        MOST_BYTES
+        MOST_CERTIFICATE_BYTES
     }
 
     fn answer<K: Kernel>(

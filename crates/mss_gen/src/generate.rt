@@ -13,8 +13,8 @@ use crate::tables::{
     targets_text, unsuited_text,
 };
 use mss_model::{
-    BARRED_FILE, EQUIPMENT_FILE, FIXED_FILE, NEEDS_FILE, NoMemory, PATIENTS_FILE, ROOMS_FILE,
-    SETTINGS_FILE, SPECIALTIES_FILE, STAYS_FILE, UNSUITED_FILE,
+    BARRED_FILE, EQUIPMENT_FILE, FIXED_FILE, MOST_SPECIALTIES, NEEDS_FILE, NoMemory, PATIENTS_FILE,
+    ROOMS_FILE, SETTINGS_FILE, SPECIALTIES_FILE, STAYS_FILE, UNSUITED_FILE,
 };
 use mss_tables::TableFiles;
 use std::alloc::Global;
@@ -27,7 +27,7 @@ fn files_of(
     units: u32,
 ) -> Result<TableFiles, NoMemory>
     requires modest { All IsModest specialties.now }
-    requires few { length specialties.now ≤ 1000 }
+    requires few { length specialties.now ≤ MOST_SPECIALTIES }
     ensures { IfOk result (λ files. files ≡ files_of size specialties.now units) }
 {
     let shape = size.shape();

@@ -13,7 +13,7 @@ ghost use Rattle.mss_tables.specs.Stays.{stays_header};
 
 use crate::rows::{Barred, Needs, Patients, SpecialtyRows, Stays, Targets, Unsuited, named};
 use crate::specialty::Specialty;
-use mss_model::{NoMemory, Text};
+use mss_model::{MOST_DAYS, MOST_ROOMS, MOST_SPECIALTIES, NoMemory, Text};
 use mss_rows::push_row;
 use std::alloc::Global;
 
@@ -25,7 +25,7 @@ fn table_text<T: SpecialtyRows>(
     specialties: &[Specialty],
 ) -> Result<Vec<u8>, NoMemory>
     requires modest { All IsModest specialties.now }
-    requires few { length specialties.now ≤ 1000 }
+    requires few { length specialties.now ≤ MOST_SPECIALTIES }
     ensures { IfOk result (λ text. text.items ≡ text_of (map (λ field. field.now) header.now ∷ by_specialty (T.rows table.now) 1 specialties.now)) }
 {
     let mut text = Text::make(alloc);
@@ -44,7 +44,7 @@ pub(crate) fn targets_text(
 ) -> Result<Vec<u8>, NoMemory>
     requires some { 0 < wards }
     requires modest { All IsModest specialties.now }
-    requires few { length specialties.now ≤ 1000 }
+    requires few { length specialties.now ≤ MOST_SPECIALTIES }
     ensures { IfOk result (λ text. text.items ≡ text_of (specialties_header ∷ by_specialty (specialty_rows wards) 1 specialties.now)) }
 {
     let header: [&[u8]; 5] = [b"specialty", b"ward", b"daily", b"low", b"high"];
@@ -54,7 +54,7 @@ pub(crate) fn targets_text(
 /// The text of the counts of patients.
 pub(crate) fn patients_text(alloc: Global, specialties: &[Specialty]) -> Result<Vec<u8>, NoMemory>
     requires modest { All IsModest specialties.now }
-    requires few { length specialties.now ≤ 1000 }
+    requires few { length specialties.now ≤ MOST_SPECIALTIES }
     ensures { IfOk result (λ text. text.items ≡ text_of (patients_header ∷ by_specialty patients_rows 1 specialties.now)) }
 {
     table_text(
@@ -68,7 +68,7 @@ pub(crate) fn patients_text(alloc: Global, specialties: &[Specialty]) -> Result<
 /// The text of the stays.
 pub(crate) fn stays_text(alloc: Global, specialties: &[Specialty]) -> Result<Vec<u8>, NoMemory>
     requires modest { All IsModest specialties.now }
-    requires few { length specialties.now ≤ 1000 }
+    requires few { length specialties.now ≤ MOST_SPECIALTIES }
     ensures { IfOk result (λ text. text.items ≡ text_of (stays_header ∷ by_specialty stays_rows 1 specialties.now)) }
 {
     table_text(
@@ -82,7 +82,7 @@ pub(crate) fn stays_text(alloc: Global, specialties: &[Specialty]) -> Result<Vec
 /// The text of the needs.
 pub(crate) fn needs_text(alloc: Global, specialties: &[Specialty]) -> Result<Vec<u8>, NoMemory>
     requires modest { All IsModest specialties.now }
-    requires few { length specialties.now ≤ 1000 }
+    requires few { length specialties.now ≤ MOST_SPECIALTIES }
     ensures { IfOk result (λ text. text.items ≡ text_of (needs_header ∷ by_specialty needs_rows 1 specialties.now)) }
 {
     table_text(
@@ -96,7 +96,7 @@ pub(crate) fn needs_text(alloc: Global, specialties: &[Specialty]) -> Result<Vec
 /// The text of the rooms that don't suit.
 pub(crate) fn unsuited_text(alloc: Global, specialties: &[Specialty]) -> Result<Vec<u8>, NoMemory>
     requires modest { All IsModest specialties.now }
-    requires few { length specialties.now ≤ 1000 }
+    requires few { length specialties.now ≤ MOST_SPECIALTIES }
     ensures { IfOk result (λ text. text.items ≡ text_of (unsuited_header ∷ by_specialty unsuited_rows 1 specialties.now)) }
 {
     table_text(alloc, &Unsuited, &[b"specialty", b"room"], specialties)
@@ -105,7 +105,7 @@ pub(crate) fn unsuited_text(alloc: Global, specialties: &[Specialty]) -> Result<
 /// The text of the barred days.
 pub(crate) fn barred_text(alloc: Global, specialties: &[Specialty]) -> Result<Vec<u8>, NoMemory>
     requires modest { All IsModest specialties.now }
-    requires few { length specialties.now ≤ 1000 }
+    requires few { length specialties.now ≤ MOST_SPECIALTIES }
     ensures { IfOk result (λ text. text.items ≡ text_of (barred_header ∷ by_specialty barred_rows 1 specialties.now)) }
 {
     table_text(alloc, &Barred, &[b"specialty", b"day"], specialties)
@@ -133,7 +133,7 @@ fn write_day(
 
 /// Writes the minutes of a room on its working days.
 fn write_room(alloc: Global, text: &mut Text, room: u32, days: u32) -> Result<(), NoMemory>
-    requires { days ≤ 28 }
+    requires { days ≤ MOST_DAYS }
     ensures { IfOk result (λ _. text.new ≡ text.old ++ text_of (room_rows room days)) }
 {
     for day in 0..days {
@@ -144,8 +144,8 @@ fn write_room(alloc: Global, text: &mut Text, room: u32, days: u32) -> Result<()
 
 /// The text of the rooms.
 pub(crate) fn rooms_text(alloc: Global, rooms: u32, days: u32) -> Result<Vec<u8>, NoMemory>
-    requires rooms { rooms ≤ 16 }
-    requires days { days ≤ 28 }
+    requires rooms { rooms ≤ MOST_ROOMS }
+    requires days { days ≤ MOST_DAYS }
     ensures { IfOk result (λ text. text.items ≡ text_of (rooms_header ∷ rooms_rows rooms days)) }
 {
     let mut text = Text::make(alloc);

@@ -25,7 +25,7 @@ pub(crate) fn find_slots(
 ) -> usize
     requires whole { length options.now ≡ slot_count (parts_of tables.now) }
     requires known { All (λ option. option < option_count (parts_of tables.now)) options.now }
-    ensures few { result ≤ 448 }
+    ensures few { result ≤ MOST_SLOTS }
     ensures own { AreOwnSlots (parts_of tables.now) ward options.now (take result found.new) }
 {
     let _slots = tables.slots();

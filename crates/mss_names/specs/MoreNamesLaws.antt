@@ -1,4 +1,4 @@
--- One name more keeps names good and apart.
+-- One name more keeps names good and distinct.
 use Rattle.std.proofs.Common.{Vec, map, ap, ◌≡◌, ◌≢◌, ◌<◌, ◌≤◌, ◌+◌, ℕ, suc, Bool, true, false, List, [], ◌∷◌, ◌++◌, length, Option, Some, None, option_map, position, get_or, refl, sym, ◌∙◌, arith, inl, inr, length-append}
 use Rattle.std.proofs.Math.ListN.{get_or-append}
 use Rattle.std.proofs.Math.Seq.{get_or-append_seam}

@@ -11,6 +11,7 @@ use Rattle.mss_cert.specs.CertificateText.{IsShort, certificate_text}
 use Rattle.mss_cert.specs.declared.certificate.Certificate.{Certificate}
 use Rattle.mss_cert.specs.declared.certificate.End.{End}
 use Rattle.mss_cert.specs.declared.certificate.End.TheVariants.{Lower, NoneLegal}
+use Rattle.mss_cert.specs.declared.certificate.TheConstants.{MOST_CERTIFICATE_BYTES}
 use Rattle.mss_check.specs.Validity.{IsValid, lean_task, peak_at_level}
 use Rattle.mss_bounds.specs.PrefixBound.{bound_of}
 use Rattle.mss_search.specs.Plan.{IsFrugal}
@@ -38,7 +39,7 @@ certificate_file = codes "certificate.txt"
 
 -- the most bytes of a certificate.txt that the checker reads
 abbrev pub certificate_limit : ℕ
-certificate_limit = 67108864
+certificate_limit = MOST_CERTIFICATE_BYTES
 
 -- ---- what the numbers of a plan say
 

@@ -11,6 +11,7 @@ use Rattle.mss_model.specs.Movements.{admissions, discharges}
 use Rattle.mss_pctl.specs.declared.figure.LevelPair.{LevelPair}
 use Rattle.mss_pctl.specs.declared.figure.Point.{Point}
 use Rattle.mss_pctl.specs.declared.peak.Peak.{Peak}
+use Rattle.mss_pctl.specs.declared.figures.TheConstants.{FIRST_LEVEL, LAST_LEVEL}
 use Rattle.mss_pctl.specs.Figures.{FiguresView, FiguresHold}
 use Rattle.mss_pctl.specs.Peaks.{IsPeakPlace, PeakEncloses}
 use Rattle.mss_report.specs.declared.report.Counts.{Counts}
@@ -60,8 +61,8 @@ pub record FiguresComplete (levels e : List ℕ) (f : FiguresView) : Type 0 wher
   pub first : ℕ
   pub last : ℕ
   pub in_order : map (λ (p : Point). p.patients) f.points ≡ range_with_len first (last + 1 - first)
-  pub begins : (percentile_below e 1000 ≤ first) × (first ≤ percentile_at e 1000)
-  pub ends : (percentile_at e 999000 ≤ last) × (last ≤ percentile_above e 999000)
+  pub begins : (percentile_below e FIRST_LEVEL ≤ first) × (first ≤ percentile_at e FIRST_LEVEL)
+  pub ends : (percentile_at e LAST_LEVEL ≤ last) × (last ≤ percentile_above e LAST_LEVEL)
 
 -- The figures of a day are those of the exact census, admissions and discharges of the ward on that day.
 pub record DayHolds (tables : TableParts) (options : List ℕ) (ward : ℕ) (d : DayReport) : Type 0 where

@@ -2,6 +2,7 @@
 use Rattle.std.specs.Prelude.{◌+◌, ◌*◌, ℕ, List, [], ◌∷◌, Some, None, Result, Ok, codes, map}
 use Rattle.mss_model.specs.Limits.{AreNumbers}
 use Rattle.mss_model.specs.declared.faults.TableFault.{TableFault}
+use Rattle.mss_model.specs.declared.limits.TheConstants.{MOST_UNITS}
 use Rattle.mss_grid.specs.Columns.{among, option, whole}
 use Rattle.mss_grid.specs.Grid.{Grid, grid_at}
 use Rattle.mss_grid.specs.Reading.{◌>>=◌}
@@ -11,7 +12,7 @@ use Rattle.mss_tables.specs.declared.restrictions.Restrictions.{Restrictions}
 
 -- the columns of the four files
 abbrev pub needs_grid : List (List ℕ) → List (List ℕ) → Grid
-needs_grid specialties kinds = record { row = among specialties; column = among kinds; value = Some (whole 0 1000) }
+needs_grid specialties kinds = record { row = among specialties; column = among kinds; value = Some (whole 0 MOST_UNITS) }
 
 abbrev pub unsuited_grid : List (List ℕ) → List (List ℕ) → Grid
 unsuited_grid specialties rooms = record { row = among specialties; column = among rooms; value = None }
@@ -74,7 +75,7 @@ restrictions_at days specialties rooms kinds all = do
 
 -- the restrictions of so many specialties, rooms and kinds of equipment are within the limits
 pub record AreRestrictions (days specialties rooms kinds : ℕ) (r : Restrictions) : Type 0 where
-  pub needs : AreNumbers (specialties * kinds) 0 1000 r.needs
+  pub needs : AreNumbers (specialties * kinds) 0 MOST_UNITS r.needs
   pub unsuited : AreNumbers (specialties * rooms) 0 1 r.unsuited
   pub fixed : AreNumbers (days * rooms) 0 (specialties + 1) r.fixed
   pub barred : AreNumbers (specialties * days) 0 1 r.barred

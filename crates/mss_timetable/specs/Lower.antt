@@ -4,13 +4,14 @@ use Rattle.mss_model.specs.declared.parts.TableParts.{TableParts}
 use Rattle.mss_weights.specs.declared.weights.Weights.{Weights}
 use Rattle.mss_weights.specs.Shown.{is_shown}
 use Rattle.mss_weights.specs.WeightsText.{IsShort, weights_text}
+use Rattle.mss_weights.specs.declared.weights.TheConstants.{MOST_WEIGHTS_BYTES}
 
 abbrev pub weights_file : List ℕ
 weights_file = codes "weights.txt"
 
 -- the most bytes of weights.txt
 abbrev pub weights_limit : ℕ
-weights_limit = 1048576
+weights_limit = MOST_WEIGHTS_BYTES
 
 -- the bytes are the text of weights that show this number under these tables
 pub record ShowsNumber (tables : TableParts) (number : ℕ) (bytes : List ℕ) : Type 0 where

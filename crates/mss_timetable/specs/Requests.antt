@@ -16,6 +16,7 @@ use Rattle.mss_command.specs.Usage.{NothingPromised, UsageDefines, usage_may_end
 use Rattle.mss_local.specs.declared.improving.Effort.{Effort}
 use Rattle.mss_timetable.specs.declared.request.Request.{Request}
 use Rattle.mss_timetable.specs.declared.request.Request.TheVariants.{Cycle, New, Check}
+use Rattle.mss_timetable.specs.declared.request.TheConstants.{MOST_TRIES}
 use Rattle.mss_timetable.specs.Check.{CheckDefines, SaysLower}
 use Rattle.mss_timetable.specs.Lower.{weights_file, weights_limit}
 use Rattle.mss_timetable.specs.Improves.{NewDefines, NewPromised, TodayDefines, TodayPromised, new_may_answer, today_may_answer}
@@ -23,7 +24,7 @@ use Rattle.mss_timetable.specs.Improves.{NewDefines, NewPromised, TodayDefines, 
 -- a number of tries from 1 to 100,000,000
 abbrev pub as_tries : Option ℕ → Option ℕ
 as_tries None = None
-as_tries (Some number) = if nat_le 1 number && nat_le number 100000000 then Some number else None
+as_tries (Some number) = if nat_le 1 number && nat_le number MOST_TRIES then Some number else None
 
 -- the tries that a word names
 abbrev pub tries_in : List ℕ → Option ℕ

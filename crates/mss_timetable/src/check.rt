@@ -18,16 +18,14 @@ use mss_desk::Desk;
 use mss_enclose::Kernel;
 use mss_model::{NoMemory, Tables};
 use mss_weights::{
-    Weights, WeightsFault, WeightsKind, WeightsRefusal, check_weights, read_weights,
+    MOST_WEIGHTS_BYTES, Weights, WeightsFault, WeightsKind, WeightsRefusal, check_weights,
+    read_weights,
 };
 use std::alloc::Global;
 
 /// Whether the weights of weights.txt show their number under the tables. It knows nothing of how they were found.
 #[derive(Clone, Copy, Debug)]
 pub struct WeightsCheck;
-
-/// The most bytes of weights.txt.
-const MOST_BYTES: usize = 1_048_576;
 
 /// The fault of a file that is longer than its limit.
 const TOO_LONG: WeightsFault = WeightsFault {
@@ -49,7 +47,7 @@ impl Question for WeightsCheck {
     }
 
     fn most_bytes(&self) -> usize {
-        MOST_BYTES
+        MOST_WEIGHTS_BYTES
     }
 
     fn answer<K: Kernel>(

@@ -8,6 +8,7 @@ use Rattle.mss_enclose.specs.Unit.{unit}
 use Rattle.mss_enclose.specs.Kept.{rest_of}
 use Rattle.mss_weights.specs.Steady.{steady_list}
 use Rattle.mss_weights.specs.Powers.{power_up, powers_up, steps_down}
+use Rattle.mss_weights.specs.declared.scales.TheConstants.{MOST_WEIGHT}
 
 -- the mean of the powers of z over a kept list, whose rest is taken to lie at 0, in parts of the unit, rounded up
 abbrev pub mean_up : ℕ → List ℕ → ℕ
@@ -15,7 +16,7 @@ mean_up z kept = (sum_below (length kept) (λ k. get_or kept k 0 * powers_up z k
 
 -- what a kept list weighs, where the mean is that of a power of the base
 abbrev pub weight_of : ℕ → List ℕ → ℕ
-weight_of power kept = steps_down 131072 unit (mean_up (power_up power) kept)
+weight_of power kept = steps_down MOST_WEIGHT unit (mean_up (power_up power) kept)
 
 -- the weights of a block, one for each offset
 abbrev pub weight_row : ℕ → ℕ → BlockView → List ℕ

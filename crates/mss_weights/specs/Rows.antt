@@ -6,12 +6,13 @@ use Rattle.mss_model.specs.TableWords.{block_of}
 use Rattle.mss_weights.specs.Steady.{steady_sum}
 use Rattle.mss_weights.specs.Light.{Weighs}
 use Rattle.mss_weights.specs.Powers.{base, base_parts}
+use Rattle.mss_weights.specs.declared.scales.TheConstants.{MOST_WEIGHT}
 
 -- the row of a block, as far as the offset `count`
 pub record IsRow (power days : ℕ) (b : BlockView) (count : ℕ) (row : List ℕ) : Type 0 where
   pub long : length row ≡ count
   pub weighs : (o : ℕ) → o < count → Weighs base base_parts (base ^ power) (base_parts ^ power) (steady_sum days b o) (get_or row o 0)
-  pub few : (o : ℕ) → get_or row o 0 ≤ 131072
+  pub few : (o : ℕ) → get_or row o 0 ≤ MOST_WEIGHT
 
 -- the rows of the first specialties
 pub record AreRows (power : ℕ) (t : TableParts) (count : ℕ) (rows : List (List ℕ)) : Type 0 where

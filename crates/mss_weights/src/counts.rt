@@ -7,7 +7,7 @@ ghost use Rattle.mss_model.specs.TableWords.{minutes_at, slot_count, specialty_c
 ghost use Rattle.mss_weights.specs.Prices.{open_one, open_slots, slots_for, most_blocks};
 ghost use Rattle.mss_weights.specs.Needed.{longest_slot, needed_blocks};
 
-use mss_model::Tables;
+use mss_model::{MOST_MINUTES, Tables};
 use mss_rules::could_take;
 
 /// 1 for a slot that has minutes.
@@ -66,7 +66,7 @@ fn possible_minutes(tables: &Tables, slot: u32, j: u8) -> u32
     requires slot { slot < slot_count (parts_of tables.now) }
     requires specialty { Between 1 (specialty_count (parts_of tables.now)) j }
     ensures value { ◌≡◌ {A = ℕ} result (if could_take (parts_of tables.now) slot j then minutes_at (parts_of tables.now) slot else 0) }
-    ensures few { result ≤ 1440 }
+    ensures few { result ≤ MOST_MINUTES }
 {
     if could_take(tables, slot, j) {
         tables.minutes(slot)
@@ -80,7 +80,7 @@ fn possible_minutes(tables: &Tables, slot: u32, j: u8) -> u32
 fn longest_slot(tables: &Tables, j: u8) -> u32
     requires specialty { Between 1 (specialty_count (parts_of tables.now)) j }
     ensures value { result ≡ longest_slot (parts_of tables.now) j }
-    ensures few { result ≤ 1440 }
+    ensures few { result ≤ MOST_MINUTES }
 {
     let mut longest = 0;
     for slot in 0..tables.slots() {

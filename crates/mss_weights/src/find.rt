@@ -17,7 +17,7 @@ use crate::lists::{at, cell};
 use crate::rows::weight_rows;
 use crate::scales::least_reach;
 use crate::sums::{all_places, limits_cost, spent, worth};
-use crate::weights::Weights;
+use crate::weights::{MOST_PRICES, Weights};
 use mss_enclose::Kernel;
 use mss_model::{NoMemory, Numbers, Tables};
 use std::alloc::Global;
@@ -47,7 +47,7 @@ pub fn find_weights<K: Kernel>(
     ensures lower { IfOk result (λ found. IfSome found (λ w. (cycle : List ℕ) → IsLegal (parts_of tables.now) cycle
         → w.number ≤ peak_at (parts_of tables.now) cycle (parts_of tables.now).level)) }
     ensures short { IfOk result (λ found. IfSome found IsShort) }
-    ensures few { IfOk result (λ found. IfSome found (λ w. price_count w ≤ 100000)) }
+    ensures few { IfOk result (λ found. IfSome found (λ w. price_count w ≤ MOST_PRICES)) }
 {
     let Some(reach) = least_reach(tables.level()) else {
         return Ok(None);
@@ -179,7 +179,7 @@ fn with_greatest(tables: &Tables, rows: &[Vec<u32>], mut weights: Weights) -> Op
     ensures lower { IfSome result (λ w. (cycle : List ℕ) → IsLegal (parts_of tables.now) cycle
         → w.number ≤ peak_at (parts_of tables.now) cycle (parts_of tables.now).level) }
     ensures short { IfSome result IsShort }
-    ensures few { IfSome result (λ w. price_count w ≤ 100000) }
+    ensures few { IfSome result (λ w. price_count w ≤ MOST_PRICES) }
 {
     weights.number = greatest(tables, rows, &weights);
     if shows(tables, rows, &weights) {

@@ -3,7 +3,7 @@ ghost use Rattle.std.specs.Prelude.{◌≡◌, ◌≤◌, ◌++◌, ◌∷◌, [
 ghost use Rattle.mss_lines.specs.Fields.{fields};
 ghost use Rattle.mss_weights.specs.WeightsText.{IsShort, head_text, price_count, version_text, weights_text};
 
-use crate::weights::Weights;
+use crate::weights::{MOST_PRICES, MOST_WEIGHTS_BYTES, Weights};
 use mss_model::{NoMemory, Text};
 use std::alloc::Global;
 
@@ -12,7 +12,7 @@ use std::alloc::Global;
 pub fn write_weights(alloc: Global, weights: &Weights) -> Result<Text, NoMemory>
     requires { IsShort weights.now }
     ensures text { IfOk result (λ text. text ≡ weights_text weights.now) }
-    ensures few { IfOk result (λ text. price_count weights.now ≤ 100000 → length text ≤ 1048576) }
+    ensures few { IfOk result (λ text. price_count weights.now ≤ MOST_PRICES → length text ≤ MOST_WEIGHTS_BYTES) }
 {
     let mut text = Text::make(alloc);
     push_head(alloc, &mut text, weights)?;

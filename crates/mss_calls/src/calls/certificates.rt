@@ -1,4 +1,8 @@
-use mss_cert::{End, Line, read, write};
+ghost use Rattle.mss_cert.specs.CertificateText.{IsShort};
+
+use mss_cert::{Certificate, End, Line, read, write};
+use std::alloc::AllocGlobal;
+use std::process::Abort;
 
 /// The certificate of two days and two rooms.
 const TEXT: &[u8] =
@@ -10,6 +14,11 @@ fn a_certificate_is_read_and_written(rt: HostRuntime) {
     let Ok(certificate) = read(rt.alloc(), TEXT) else {
         panic!(rt; "refused");
     };
+    assert_lines(&rt, &certificate);
+    assert_text(&rt, &certificate);
+}
+
+fn assert_lines(rt: &impl Abort, certificate: &Certificate) {
     assert_eq!(rt; certificate.version, 1);
     assert_eq!(rt;
         (certificate.slots, certificate.options, certificate.level),
@@ -25,8 +34,13 @@ fn a_certificate_is_read_and_written(rt: HostRuntime) {
         day: 1,
     };
     assert_eq!(rt; certificate.tree.get(10), full);
-    let Ok(text) = write(rt.alloc(), &certificate) else {
-        panic!(rt; "no memory");
-    };
-    assert_eq!(rt; text.bytes(), TEXT);
+}
+
+fn assert_text(rt: &(impl AllocGlobal + Abort), certificate: &Certificate)
+    requires { IsShort certificate.now }
+{
+    match write(rt.alloc(), certificate) {
+        Ok(text) => assert_eq!(rt; text.bytes(), TEXT),
+        Err(_) => panic!(rt; "no memory"),
+    }
 }

@@ -1,5 +1,6 @@
-ghost use Rattle.std.specs.Prelude.{◌<◌, ◌≤◌, length, sum};
+ghost use Rattle.std.specs.Prelude.{◌≡◌, ◌<◌, ◌≤◌, length, sum};
 ghost use Rattle.mss_enclose.specs.Unit.{unit};
+ghost use Rattle.mss_enclose.specs.Words.{masses_list};
 
 use mss_enclose::{Enclosure, Kernel, Lean, Masses, Plain, Scratch, UNIT, decimal_text, down, up};
 use mss_pctl::day_lines;
@@ -62,25 +63,36 @@ fn with_halves(rt: &(impl AllocGlobal + Abort), list: &[u64]) -> Vec<u64>
     out
 }
 
+/// Fails if the convolution of a list with two halves isn't this one.
+fn assert_halved(rt: &(impl AllocGlobal + Abort), list: &[u64], wanted: &[u64])
+    requires some { 0 < length list.now }
+    requires few { length list.now < 100 }
+    requires fits { sum list.now ≤ unit }
+{
+    assert_eq!(rt; with_halves(rt, list).as_slice(), wanted);
+}
+
 #[test]
 fn a_list_is_moved_and_halved(rt: HostRuntime) {
-    let one = with_halves(&rt, &[UNIT]);
-    assert_eq!(rt; one.as_slice(), [HALF, HALF].as_slice());
-    let seven = with_halves(&rt, &[0, 0, 0, 0, 0, 0, UNIT]);
-    assert_eq!(rt; seven.as_slice(), [0, 0, 0, 0, 0, 0, HALF, HALF].as_slice());
-    let eight = with_halves(&rt, &[0, 0, 0, 0, 0, 0, 0, UNIT]);
-    assert_eq!(rt;
-        eight.as_slice(),
-        [0, 0, 0, 0, 0, 0, 0, HALF, HALF].as_slice()
+    assert_halved(&rt, &[UNIT], &[HALF, HALF]);
+    assert_halved(
+        &rt,
+        &[0, 0, 0, 0, 0, 0, UNIT],
+        &[0, 0, 0, 0, 0, 0, HALF, HALF],
     );
-    let nine = with_halves(&rt, &[0, 0, 0, 0, 0, 0, 0, 0, UNIT]);
-    assert_eq!(rt;
-        nine.as_slice(),
-        [0, 0, 0, 0, 0, 0, 0, 0, HALF, HALF].as_slice()
+    assert_halved(
+        &rt,
+        &[0, 0, 0, 0, 0, 0, 0, UNIT],
+        &[0, 0, 0, 0, 0, 0, 0, HALF, HALF],
+    );
+    assert_halved(
+        &rt,
+        &[0, 0, 0, 0, 0, 0, 0, 0, UNIT],
+        &[0, 0, 0, 0, 0, 0, 0, 0, HALF, HALF],
     );
     let list = [0, 0, 0, 0, 0, 0, 0, 0, 0, 0, 0, 0, 0, 0, 0, 0, UNIT];
     let halves = [0, 0, 0, 0, 0, 0, 0, 0, 0, 0, 0, 0, 0, 0, 0, 0, HALF, HALF];
-    assert_eq!(rt; with_halves(&rt, &list).as_slice(), halves.as_slice());
+    assert_halved(&rt, &list, &halves);
 }
 
 #[test]
@@ -95,11 +107,28 @@ fn a_thinning_row(rt: HostRuntime) {
     );
 }
 
+/// The kept list of these numbers.
+fn masses_of(rt: &(impl AllocGlobal + Abort), list: &[u64]) -> Masses
+    requires some { 0 < length list.now }
+    requires few { length list.now < 100 }
+    requires fits { sum list.now ≤ unit }
+    ensures list { masses_list result ≡ list.now }
+{
+    match Masses::take(rt.alloc(), list) {
+        Ok(masses) => masses,
+        Err(_) => panic!(rt; "no memory"),
+    }
+}
+
 #[test]
 fn kept_numbers_enclose(rt: HostRuntime) {
-    let Ok(list) = Masses::take(rt.alloc(), &[HALF - 1, HALF / 2, HALF / 2 - 1]) else {
-        panic!(rt; "no memory");
-    };
+    let list = masses_of(&rt, &[HALF - 1, HALF / 2, HALF / 2 - 1]);
+    assert_enclosed(&rt, &list);
+}
+
+fn assert_enclosed(rt: &impl Abort, list: &Masses)
+    requires { length (masses_list list.now) ≡ 3 }
+{
     assert_eq!(rt; (list.rest(), list.mass(0)), (2, (HALF - 1, HALF + 1)));
     assert_eq!(rt;
         list.cumulative(1),
@@ -111,20 +140,26 @@ fn kept_numbers_enclose(rt: HostRuntime) {
 
 #[test]
 fn what_is_wanting_lies_at_outcome_0(rt: HostRuntime) {
-    let Ok(part) = Masses::take(rt.alloc(), &[HALF - 1, HALF - 1]) else {
-        panic!(rt; "no memory");
-    };
-    let Ok(mut scratch) = Scratch::make(rt.alloc(), 3) else {
-        panic!(rt; "no memory");
-    };
-    let Ok(mut sum) = Lean::make(rt.alloc(), 3) else {
+    let mut sum = sum_of_one(&rt);
+    assert_sum(&rt, &sum, &[HALF + 1, HALF - 1]);
+    assert_eq!(rt; (sum.low(500_000), sum.low(500_001), sum.room()), (0, 1, 3));
+    sum.reset();
+    assert_sum(&rt, &sum, &[UNIT]);
+}
+
+/// The sum of one list of two numbers, which lacks two parts.
+fn sum_of_one(rt: &(impl AllocGlobal + Abort)) -> Lean {
+    let part = masses_of(rt, &[HALF - 1, HALF - 1]);
+    let (Ok(mut sum), Ok(mut scratch)) = (Lean::make(rt.alloc(), 3), Scratch::make(rt.alloc(), 3))
+    else {
         panic!(rt; "no memory");
     };
     sum.push(&Plain, &part, &mut scratch);
-    assert_eq!(rt; sum.list(), [HALF + 1, HALF - 1].as_slice());
-    assert_eq!(rt; (sum.low(500_000), sum.low(500_001), sum.room()), (0, 1, 3));
-    sum.reset();
-    assert_eq!(rt; sum.list(), [UNIT].as_slice());
+    sum
+}
+
+fn assert_sum(rt: &impl Abort, sum: &Lean, wanted: &[u64]) {
+    assert_eq!(rt; sum.list(), wanted);
 }
 
 #[test]

@@ -1,5 +1,6 @@
 use mss_model::is_name;
 use mss_names::{NameRefusal, NameTable};
+use std::process::Abort;
 
 #[test]
 fn names_by_the_rule(rt: HostRuntime) {
@@ -28,6 +29,11 @@ fn a_full_table(rt: HostRuntime) {
     let Ok(mut table) = NameTable::make(rt.alloc(), 1) else {
         panic!(rt; "no memory");
     };
+    add_names(&rt, &mut table);
+    assert_one_name(&rt, &table);
+}
+
+fn add_names(rt: &impl Abort, table: &mut NameTable) {
     let cases: &[(&[u8], Result<u32, NameRefusal>)] = &[
         (b"A", Ok(1)),
         (b"A", Ok(1)),
@@ -38,6 +44,9 @@ fn a_full_table(rt: HostRuntime) {
     for (name, expected) in cases {
         assert_eq!(rt; table.add(name), *expected);
     }
+}
+
+fn assert_one_name(rt: &impl Abort, table: &NameTable) {
     assert_eq!(rt;
         (table.len(), table.find(b"A"), table.find(b"B")),
         (1, Some(1), None)
