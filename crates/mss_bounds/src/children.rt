@@ -24,7 +24,7 @@ use crate::ward_days::WardDay;
 use mss_census::{Census, lies_on};
 use mss_enclose::{Count, Enclosure, Kernel};
 use mss_floor::{forced, forced_counts};
-use mss_model::Tables;
+use mss_model::{MOST_OPTIONS, Tables};
 
 /// What is known of the child whose last slot is idle: it has the lists of its parent.
 pub(crate) fn idle_over<E: Enclosure, K: Kernel>(
@@ -111,7 +111,7 @@ pub(crate) fn child_over<E: Enclosure, K: Kernel>(
 }
 
 /// How many blocks a child forces of each specialty, where those are given that its idle sibling forces.
-fn sibling_counts(tables: &Tables, child: &[u8], idle: &[u32; 25]) -> [u32; 25]
+fn sibling_counts(tables: &Tables, child: &[u8], idle: &[u32; MOST_OPTIONS]) -> [u32; MOST_OPTIONS]
     requires some { 0 < length child.now }
     requires long { length child.now ≤ slot_count (parts_of tables.now) }
     requires options { All (λ option. option < option_count (parts_of tables.now)) child.now }
@@ -133,7 +133,7 @@ fn child_low<E: Enclosure, K: Kernel>(
     tables: &Tables,
     census: &mut Census<E>,
     child: &[u8],
-    blocks: &[u32; 25],
+    blocks: &[u32; MOST_OPTIONS],
     list: &E,
     spot: WardDay,
     idle: u32,

@@ -14,7 +14,7 @@ use crate::ward_days::WardDay;
 use mss_census::CENSUS_ROOM;
 use mss_enclose::{Count, Enclosure, Kernel, Scratch};
 use mss_floor::Floors;
-use mss_model::{NoMemory, Tables};
+use mss_model::{MOST_OPTIONS, NoMemory, Tables};
 use std::alloc::Global;
 use std::marker::Model;
 
@@ -64,7 +64,7 @@ impl<E: Enclosure> Floored<E> {
         kernel: &K,
         tables: &Tables,
         prefix: &[u8],
-        blocks: &[u32; 25],
+        blocks: &[u32; MOST_OPTIONS],
         list: &E,
         spot: WardDay,
         count: &mut Count,

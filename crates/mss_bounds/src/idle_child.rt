@@ -1,5 +1,7 @@
 //! What the children of a prefix share.
 
+use mss_model::MOST_OPTIONS;
+
 /// The most watched wards times days.
 pub const MOST_PLACES: usize = 224;
 
@@ -10,5 +12,5 @@ pub struct IdleChild {
     /// Its low numbers at the watched wards and all days, in their order.
     pub lows: [u32; MOST_PLACES],
     /// How many blocks it forces of each specialty, at the place of its number.
-    pub blocks: [u32; 25],
+    pub blocks: [u32; MOST_OPTIONS],
 }

@@ -8,7 +8,7 @@ ghost use Rattle.mss_model.specs.Peak.{largest_below};
 ghost use Rattle.mss_model.specs.TableWords.{option_count, slot_count, specialty_count};
 ghost use Rattle.mss_floor.specs.ForcedBlocks.{AreForced, blocks_for, blocks_from, forced, open_minutes};
 
-use mss_model::Tables;
+use mss_model::{MOST_OPTIONS, Tables};
 use mss_rules::{could_take, got};
 
 /// The minutes that a specialty could have in a slot.
@@ -83,12 +83,12 @@ pub fn forced(tables: &Tables, prefix: &[u8], j: u8) -> u32
 }
 
 /// How many blocks a prefix forces of each specialty, at the place of its number. It takes no memory.
-pub fn forced_counts(tables: &Tables, prefix: &[u8]) -> [u32; 25]
+pub fn forced_counts(tables: &Tables, prefix: &[u8]) -> [u32; MOST_OPTIONS]
     requires long { length prefix.now ≤ slot_count (parts_of tables.now) }
     requires options { All (λ option. option < option_count (parts_of tables.now)) prefix.now }
     ensures { AreForced (parts_of tables.now) prefix.now result }
 {
-    let mut blocks = [0; 25];
+    let mut blocks = [0; MOST_OPTIONS];
     for j in 0..tables.specialties() {
         set_count(&mut blocks, j + 1, forced(tables, prefix, j + 1));
     }
@@ -96,9 +96,9 @@ pub fn forced_counts(tables: &Tables, prefix: &[u8]) -> [u32; 25]
 }
 
 /// Sets the number at a place.
-fn set_count(blocks: &mut [u32; 25], j: u8, count: u32)
-    requires { j < 25 }
-    ensures { (i : ℕ) → i < 25 → slice_index blocks.new i ≡ (if i == j then count else slice_index blocks.old i) }
+fn set_count(blocks: &mut [u32; MOST_OPTIONS], j: u8, count: u32)
+    requires { j < MOST_OPTIONS }
+    ensures { (i : ℕ) → i < MOST_OPTIONS → slice_index blocks.new i ≡ (if i == j then count else slice_index blocks.old i) }
 {
     blocks[usize::from(j)] = count;
 }

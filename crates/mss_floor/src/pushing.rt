@@ -18,7 +18,7 @@ use crate::floors::{Floors, set_floor};
 use crate::forcing::forced_counts;
 use mss_census::CENSUS_ROOM;
 use mss_enclose::{Count, Enclosure, Kernel, Masses, Scratch};
-use mss_model::Tables;
+use mss_model::{MOST_OPTIONS, Tables};
 
 impl Floors {
     /// Pushes the floors of a prefix at a ward and day onto its list there, and counts the pushes. What comes of it lies at
@@ -66,7 +66,7 @@ impl Floors {
         kernel: &K,
         tables: &Tables,
         prefix: &[u8],
-        blocks: &[u32; 25],
+        blocks: &[u32; MOST_OPTIONS],
         ward: u8,
         day: u8,
         scratch: &mut Scratch,
@@ -112,7 +112,7 @@ impl Floors {
         kernel: &K,
         tables: &Tables,
         prefix: &[u8],
-        blocks: &[u32; 25],
+        blocks: &[u32; MOST_OPTIONS],
         ward: u8,
         day: u8,
         scratch: &mut Scratch,

@@ -3,7 +3,7 @@ use Rattle.std.specs.Prelude.{◌≡◌, ℕ, ◌+◌, ◌-◌, ◌^◌, ◌<◌
 use Rattle.std.specs.List.{All}
 use Rattle.mss_model.specs.Presence.{presence}
 use Rattle.mss_model.specs.Thinning.{thinned_by}
-use Rattle.mss_model.specs.declared.one_block.TheConstants.{PARTS, FINE_PARTS}
+use Rattle.mss_model.specs.declared.one_block.TheConstants.{PARTS, FINE_PARTS, MOST_PATIENTS, MOST_AGES}
 
 -- chances are whole numbers of parts of a million, or of a thousand million
 pub record IsParts (parts : ℕ) : Type 0 where
@@ -19,13 +19,13 @@ pub record BlockView : Type 0 where
 -- one of 0 to 16 patients come
 pub record IsPatients (parts : ℕ) (patients : List ℕ) : Type 0 where
   pub some : 1 ≤ length patients
-  pub few : length patients ≤ 17
+  pub few : length patients ≤ MOST_PATIENTS + 1
   pub whole : sum patients ≡ parts
 
 -- the discharge is certain at the last of 1 to 60 ages, and at no earlier one
 pub record IsStays (parts : ℕ) (stays : List ℕ) : Type 0 where
   pub some : 1 ≤ length stays
-  pub few : length stays ≤ 60
+  pub few : length stays ≤ MOST_AGES
   pub within : All (λ chance. chance ≤ parts) stays
   pub last : slice_index stays (length stays - 1) ≡ parts
   pub earlier : (age : ℕ) → age + 1 < length stays → slice_index stays age ≢ parts

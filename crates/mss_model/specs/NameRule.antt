@@ -1,7 +1,8 @@
 -- The rule for names of rooms, wards, specialties and equipment.
-use Rattle.std.specs.Prelude.{ℕ, Bool, false, ◌&&◌, not, ◌==◌, nat_lt, List, [], ◌∷◌, length}
+use Rattle.std.specs.Prelude.{ℕ, Bool, false, ◌&&◌, not, ◌==◌, nat_lt, nat_le, List, [], ◌∷◌, length}
 use Rattle.std.specs.List.{list_all}
 use Rattle.std.specs.Str.{is_utf8}
+use Rattle.mss_model.specs.declared.name_rule.TheConstants.{MOST_NAME_BYTES}
 
 -- no control character
 abbrev pub is_printed_byte : ℕ → Bool
@@ -15,4 +16,4 @@ is_dash (byte ∷ next ∷ rest) = false
 
 -- 1 to 60 bytes of UTF-8 without control characters, and not `-` alone
 abbrev pub is_name_text : List ℕ → Bool
-is_name_text bytes = nat_lt 0 (length bytes) && nat_lt (length bytes) 61 && not (is_dash bytes) && is_utf8 bytes && list_all is_printed_byte bytes
+is_name_text bytes = nat_lt 0 (length bytes) && nat_le (length bytes) MOST_NAME_BYTES && not (is_dash bytes) && is_utf8 bytes && list_all is_printed_byte bytes

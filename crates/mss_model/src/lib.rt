@@ -26,10 +26,10 @@ pub use files::{
 pub use growing::{MOST_MEMBERS, Names, Numbers, Text};
 pub use limits::{
     MOST_ALLOWANCE, MOST_BUDGET, MOST_DAILY, MOST_DAYS, MOST_KINDS, MOST_LEVEL, MOST_LISTED,
-    MOST_MINUTES, MOST_ROOMS, MOST_SLOTS, MOST_SPECIALTIES, MOST_TARGET, MOST_UNITS, MOST_WARDS,
-    WHOLE_LEVEL,
+    MOST_MINUTES, MOST_OPTIONS, MOST_ROOMS, MOST_SLOTS, MOST_SPECIALTIES, MOST_TARGET, MOST_UNITS,
+    MOST_WARDS, WHOLE_LEVEL,
 };
-pub use name_rule::is_name;
+pub use name_rule::{MOST_NAME_BYTES, is_name};
 pub use no_memory::NoMemory;
 pub use one_block::{Block, FINE_PARTS, MOST_AGES, MOST_PATIENTS, PARTS, is_parts};
 pub use one_cycle::Cycle;

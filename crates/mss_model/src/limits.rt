@@ -17,6 +17,9 @@ pub const MOST_ROOMS: u32 = 16;
 
 pub const MOST_SPECIALTIES: u32 = 24;
 
+/// The most options of a slot: idle, and a block of each specialty.
+pub const MOST_OPTIONS: usize = 25;
+
 pub const MOST_WARDS: u32 = 8;
 
 /// The most kinds of equipment.

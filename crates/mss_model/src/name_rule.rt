@@ -6,6 +6,9 @@ ghost use Rattle.mss_model.specs.NameRule.{is_name_text, is_printed_byte};
 
 use std::str;
 
+/// The most bytes of a name.
+pub const MOST_NAME_BYTES: usize = 60;
+
 /// Whether these bytes may be a name: 1 to 60 bytes of UTF-8 without control characters, and not `-` alone, which means
 /// an idle slot.
 pub fn is_name(bytes: &[u8]) -> bool
@@ -13,7 +16,7 @@ pub fn is_name(bytes: &[u8]) -> bool
 {
     match bytes {
         [] | [b'-'] => false,
-        _ => bytes.len() <= 60 && is_text(bytes) && is_printed(bytes),
+        _ => bytes.len() <= MOST_NAME_BYTES && is_text(bytes) && is_printed(bytes),
     }
 }
 

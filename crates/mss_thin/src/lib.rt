@@ -8,6 +8,6 @@ mod offsets;
 mod thin_row;
 mod thinning;
 
-pub use ages::{admitted, block_days, departures};
-pub use offsets::{steady, steady_departures};
+pub use ages::{FIRST_REST, THINNING_REST, admitted, block_days, departures};
+pub use offsets::{AGE_REST, steady, steady_departures};
 pub use thin_row::ThinRow;
