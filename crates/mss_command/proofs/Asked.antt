@@ -1,21 +1,23 @@
--- What a question comes to, from the files that were gathered and its own file as it was read.
-use Rattle.std.proofs.Common.{◌≡◌, ◌≤◌, ◌⊎◌, ℕ, List, [], Bool, Option, Some, None, Ok, inl, inr, refl, sym, ap, subst, ◌∙◌, arith}
-use Rattle.std.specs.Prelude.{IsTrue}
+-- What a question comes to, from what was made of the tables and its own file as it was read.
+use Rattle.std.proofs.Common.{◌≡◌, ◌≤◌, ◌⊎◌, ℕ, List, [], Bool, Option, Some, None, Result, Ok, Err, inl, inr, refl, sym, ap, subst, ◌∙◌, arith}
+use Rattle.std.specs.Prelude.{IfOk, IsTrue}
 use Rattle.mss_model.specs.PartsOf.{parts_of}
 use Rattle.mss_model.specs.declared.parts.TableParts.{TableParts}
 use Rattle.mss_model.specs.declared.table_set.Tables.{Tables}
-use Rattle.mss_desk.specs.Desk.{Content, Files, IfTold, IsMissing, Rose}
+use Rattle.mss_desk.specs.Desk.{Content, IfTold, IsMissing, Rose, Seen}
+use Rattle.mss_command.specs.declared.reply.Reply.{Reply}
+use Rattle.mss_command.specs.declared.reply.Stop.{Stop}
 use Rattle.mss_command.specs.declared.status.Status.{Status}
 use Rattle.mss_command.specs.declared.status.Status.TheVariants as statuses
 use Rattle.mss_command.specs.declared.tables.Judged.TheVariants as judged
-use Rattle.mss_command.specs.Answers.{IsLacking}
+use Rattle.mss_command.specs.Answers.{IsLacking, Prepares}
 use Rattle.mss_command.specs.Fetched.{Fetched, Bytes, within}
-use Rattle.mss_command.specs.Gathered.{Gathered, gathered}
-use Rattle.mss_command.specs.Judging.{Judges, RefusesTables}
-use Rattle.mss_command.specs.Outcome.{Outcome}
-use Rattle.mss_command.specs.Questions.{AskLacks, Asks, AsksRead, IsUnwanted, LacksRead, may_end_asking, wanted}
+use Rattle.mss_command.specs.Gathered.{IsOneMissing, gathered}
+use Rattle.mss_command.specs.Judging.{Judges}
+use Rattle.mss_command.specs.Outcome.{Outcome, outcome_of}
+use Rattle.mss_command.specs.Questions.{AskLacks, Asks, AsksRead, AsksUnder, LacksRead, WantedLacks, may_end_asking, wanted}
 use Rattle.mss_command.specs.Status.{ends_by}
-use Rattle.mss_command.specs.Tables.{tables_gathered, tables_on}
+use Rattle.mss_command.specs.Tables.{tables_gathered}
 
 -- a status of an answer is one of the question
 pub ends_asking : (may_answer : Status → Bool) (status : Status) → IsTrue (ends_by may_answer status) → IsTrue (ends_by (may_end_asking may_answer) status)
@@ -31,58 +33,76 @@ ends_asking may_answer statuses.ReadFault h = h
 ends_asking may_answer statuses.WriteFault h = h
 ends_asking may_answer statuses.NoMemory h = h
 
--- the tables that were made of gathered files are those on the desk
-made_on : (files : Files) (g : Gathered) (tables : Tables) → gathered files ≡ g → Judges g (judged.Tables tables) → tables_on files ≡ Some (Ok (parts_of tables))
-made_on files g tables is h = ap tables_gathered is ∙ h
+-- ---- its own file
 
 -- a file that isn't there is one that a question lacks
-pub unwanted_cause : (first now : ℕ) (name : List ℕ) (limit : ℕ) (t : Option Content) → Rose first now ⊎ IsMissing t name
-    → Rose first now ⊎ IsUnwanted (Some name) limit t
-unwanted_cause first now name limit t (inl rose) = inl rose
-unwanted_cause first now name limit (Some c) (inr missing) = inr (ap (within limit) missing)
-unwanted_cause first now name limit None (inr missing) = absurd missing
+pub wanted_cause : (first now : ℕ) (name : List ℕ) (limit : ℕ) (t : Option Content) → Rose first now ⊎ IsMissing t name
+    → Rose first now ⊎ IsLacking (WantedLacks (Some name) limit) t
+wanted_cause first now name limit t (inl rose) = inl rose
+wanted_cause first now name limit (Some c) (inr missing) = inr (ap (within limit) missing)
+wanted_cause first now name limit None (inr missing) = absurd missing
 
 -- where no file is wanted, no bytes are read
 pub no_bytes : (t : Option Content) (limit : ℕ) (bytes : List ℕ) → bytes ≡ [] → IfTold t (λ c. wanted None limit c.files ≡ Bytes bytes)
 no_bytes (Some c) limit bytes none = ap Bytes (sym none)
 no_bytes None limit bytes none = tt
 
+-- an answer to a file as it was read is one over the files of the desk, which tells the same
+pub answered_under : (answers : TableParts → Fetched → Outcome → Type 0) (tables : TableParts) (name : Option (List ℕ)) (limit : ℕ) (t : Option Content) (file : Fetched) (o : Outcome)
+    → IfTold t (λ c. wanted name limit c.files ≡ file) → answers tables file o → IfTold t (λ c. AsksUnder answers tables name limit c.files o)
+answered_under answers tables name limit (Some c) file o read known = subst (λ f. answers tables f o) (sym read) known
+answered_under answers tables name limit None file o read known = tt
+
+-- ---- the tables
+
 module _ (answers : TableParts → Fetched → Outcome → Type 0) (name : Option (List ℕ)) (limit : ℕ) where
   -- the tables are refused
-  pub refused : (t : Option Content) (g : Gathered) (o : Outcome) → IfTold t (λ c. gathered c.files ≡ g) → RefusesTables (tables_gathered g) o
-      → IfTold t (λ c. Asks answers name limit c.files o)
-  refused (Some c) g o is r =
-      subst (λ reading. AsksRead answers reading (wanted name limit c.files) o) (sym (ap tables_gathered is ∙ r.first)) r.refuses
-  refused None g o is r = tt
+  pub refused : (t : Option Content) (reply : Reply) → IfTold t (λ c. Judges (gathered c.files) (judged.Refused reply))
+      → IfTold t (λ c. Asks answers name limit c.files (outcome_of reply))
+  refused (Some c) reply r = subst (λ reading. AsksRead answers reading (wanted name limit c.files) (outcome_of reply)) (sym r.first) r.refuses
+  refused None reply r = tt
 
-  -- the question is answered under the tables
-  defined : (t : Option Content) (g : Gathered) (tables : Tables) (file : Fetched) (o : Outcome)
-      → IfTold t (λ c. gathered c.files ≡ g) → Judges g (judged.Tables tables)
-      → IfTold t (λ c. wanted name limit c.files ≡ file) → answers (parts_of tables) file o
-      → IfTold t (λ c. Asks answers name limit c.files o)
-  defined (Some c) g tables file o is h read known =
-      subst (λ reading. AsksRead answers reading (wanted name limit c.files) o) (sym (made_on c.files g tables is h))
-      (subst (λ f. answers (parts_of tables) f o) (sym read) known)
-  defined None g tables file o is h read known = tt
+  -- one of their files isn't there
+  pub one_lacking : (first now : ℕ) (t : Option Content) → Rose first now ⊎ IsOneMissing t → Rose first now ⊎ IsLacking (AskLacks name limit) t
+  one_lacking first now t (inl rose) = inl rose
+  one_lacking first now (Some c) (inr missing) = inr (subst (λ g. LacksRead (tables_gathered g) (wanted name limit c.files)) (sym missing) tt)
+  one_lacking first now None (inr missing) = absurd missing
 
-  -- the file of the question isn't there
-  is_lacking : (t : Option Content) (g : Gathered) (tables : Tables) → IfTold t (λ c. gathered c.files ≡ g) → Judges g (judged.Tables tables)
-      → IsUnwanted name limit t → IsLacking (AskLacks name limit) t
-  is_lacking (Some c) g tables is h missing =
-      subst (λ reading. LacksRead reading (wanted name limit c.files)) (sym (made_on c.files g tables is h)) missing
-  is_lacking None g tables is h missing = missing
+  module _ (tables : Tables) where
+    -- what is answered under the tables is what the question comes to
+    defined : (t : Option Content) (r : Result Reply Stop) → IfTold t (λ c. Judges (gathered c.files) (judged.Tables tables))
+        → IfTold t (λ c. IfOk r (λ reply. AsksUnder answers (parts_of tables) name limit c.files (outcome_of reply)))
+        → IfTold t (λ c. IfOk r (λ reply. Asks answers name limit c.files (outcome_of reply)))
+    defined (Some c) (Ok reply) h known = subst (λ reading. AsksRead answers reading (wanted name limit c.files) (outcome_of reply)) (sym h) known
+    defined (Some c) (Err stop) h known = tt
+    defined None r h known = tt
 
-  -- the file was read after the tables were gathered, when the desk told the same
-  pub asked : (t u : Option Content) (g : Gathered) (tables : Tables) (file : Fetched) (o : Outcome) → u ≡ t
-      → IfTold t (λ c. gathered c.files ≡ g) → Judges g (judged.Tables tables)
-      → IfTold u (λ c. wanted name limit c.files ≡ file) → answers (parts_of tables) file o
-      → IfTold t (λ c. Asks answers name limit c.files o)
-  asked t u g tables file o same is h read known =
-      defined t g tables file o is h (subst (λ w. IfTold w (λ c. wanted name limit c.files ≡ file)) same read) known
+    -- the file of the question isn't there
+    lacking : (t : Option Content) → IfTold t (λ c. Judges (gathered c.files) (judged.Tables tables)) → IsLacking (WantedLacks name limit) t → IsLacking (AskLacks name limit) t
+    lacking (Some c) h missing = subst (λ reading. LacksRead reading (wanted name limit c.files)) (sym h) missing
+    lacking None h missing = missing
 
-  -- the file couldn't be read
-  pub file_cause : (t u : Option Content) (first before now : ℕ) (g : Gathered) (tables : Tables) → u ≡ t → first ≤ before
-      → IfTold t (λ c. gathered c.files ≡ g) → Judges g (judged.Tables tables)
-      → Rose before now ⊎ IsUnwanted name limit u → Rose first now ⊎ IsLacking (AskLacks name limit) t
-  file_cause t u first before now g tables same less is h (inl rose) = inl (omega arith)
-  file_cause t u first before now g tables same less is h (inr missing) = inr (is_lacking t g tables is h (subst (IsUnwanted name limit) same missing))
+    file_cause : (t : Option Content) (first before now : ℕ) → first ≤ before → IfTold t (λ c. Judges (gathered c.files) (judged.Tables tables))
+        → Rose before now ⊎ IsLacking (WantedLacks name limit) t → Rose first now ⊎ IsLacking (AskLacks name limit) t
+    file_cause t first before now less h (inl rose) = inl (omega arith)
+    file_cause t first before now less h (inr missing) = inr (lacking t h missing)
+
+    ends : (may_answer : Status → Bool) (r : Result Reply Stop) → IfOk r (λ reply. IsTrue (ends_by may_answer reply.status))
+        → IfOk r (λ reply. IsTrue (ends_by (may_end_asking may_answer) reply.status))
+    ends may_answer (Ok reply) h = ends_asking may_answer reply.status h
+    ends may_answer (Err stop) h = tt
+
+    -- a question comes to its answer under the tables, where the desk told the same after they were gathered
+    pub asked : (may_answer : Status → Bool) (first before after : Seen) (r : Result Reply Stop) → IfTold first.told (λ c. Judges (gathered c.files) (judged.Tables tables))
+        → before.told ≡ first.told → before.write_faults ≡ first.write_faults → first.read_faults ≤ before.read_faults
+        → Prepares (AsksUnder answers (parts_of tables) name limit) (WantedLacks name limit) may_answer before after r
+        → Prepares (Asks answers name limit) (AskLacks name limit) (may_end_asking may_answer) first after r
+    asked may_answer first before after r h told writes less p = record {
+      reply = defined first.told r h (subst (λ t. IfTold t (λ c. IfOk r (λ reply. AsksUnder answers (parts_of tables) name limit c.files (outcome_of reply)))) told p.reply);
+      status = ends may_answer r p.status;
+      content = p.content ∙ told;
+      write_faults = p.write_faults ∙ writes;
+      later = omega (arith, less, p.later);
+      cause = λ failed. file_cause first.told first.read_faults before.read_faults after.read_faults less h
+          (subst (λ t. Rose before.read_faults after.read_faults ⊎ IsLacking (WantedLacks name limit) t) told (p.cause failed));
+    }

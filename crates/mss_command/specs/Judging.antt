@@ -29,6 +29,11 @@ abbrev pub Judges : Gathered → Judged → Type 0
 Judges g (judged_tables.Tables tables) = tables_gathered g ≡ Some (Ok (parts_of tables))
 Judges g (judged_tables.Refused reply) = RefusesTables (tables_gathered g) (outcome_of reply)
 
+-- a refusal has the status of refused tables
+abbrev pub RefusesAsTables : Judged → Type 0
+RefusesAsTables (judged_tables.Tables tables) = ⊤
+RefusesAsTables (judged_tables.Refused reply) = reply.status ≡ statuses.Tables
+
 -- ---- a cycle
 
 -- from the file as it was read

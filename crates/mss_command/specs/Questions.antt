@@ -2,7 +2,7 @@
 use Rattle.std.specs.Prelude.{◌≡◌, ⊤, ℕ, Bool, true, List, [], Option, Some, None, Result, Ok, Err}
 use Rattle.mss_model.specs.declared.faults.TableFault.{TableFault}
 use Rattle.mss_model.specs.declared.parts.TableParts.{TableParts}
-use Rattle.mss_desk.specs.Desk.{Files, Content}
+use Rattle.mss_desk.specs.Desk.{Files}
 use Rattle.mss_report.specs.Faults.{fault_text_of}
 use Rattle.mss_command.specs.declared.status.Status.{Status}
 use Rattle.mss_command.specs.declared.status.Status.TheVariants as statuses
@@ -15,10 +15,13 @@ abbrev pub wanted : Option (List ℕ) → ℕ → Files → Fetched
 wanted None limit files = Bytes []
 wanted (Some name) limit files = fetched limit files name
 
--- the content is told, and the file that the question reads isn't there
-abbrev pub IsUnwanted : Option (List ℕ) → ℕ → Option Content → Type 0
-IsUnwanted name limit (Some c) = wanted name limit c.files ≡ Missing
-IsUnwanted name limit None = ⊥
+-- the file that a question reads isn't there
+abbrev pub WantedLacks : Option (List ℕ) → ℕ → Files → Type 0
+WantedLacks name limit files = wanted name limit files ≡ Missing
+
+-- what a question with these answers comes to under these tables
+abbrev pub AsksUnder : (TableParts → Fetched → Outcome → Type 0) → TableParts → Option (List ℕ) → ℕ → Files → Outcome → Type 0
+AsksUnder answers tables name limit files o = answers tables (wanted name limit files) o
 
 -- what is said where the tables and the other file read like this: the answer under the tables, or their first fault
 abbrev pub AsksRead : (TableParts → Fetched → Outcome → Type 0) → Option (Result TableParts TableFault) → Fetched → Outcome → Type 0

@@ -6,14 +6,13 @@ ghost use Rattle.mss_desk.specs.Desk.{IfTold, Rose};
 ghost use Rattle.mss_command.specs.Answers.{IsLacking, Prepares};
 ghost use Rattle.mss_command.specs.Fetched.{Fetched, IsWithin, fetched_of};
 ghost use Rattle.mss_command.specs.Outcome.{Outcome, outcome_of};
-ghost use Rattle.mss_command.specs.Questions.{AskLacks, Asks, IsUnwanted, may_end_asking, wanted};
+ghost use Rattle.mss_command.specs.Questions.{AskLacks, Asks, AsksUnder, WantedLacks, may_end_asking, wanted};
 ghost use Rattle.mss_command.specs.Status.{ends_by};
 ghost use Rattle.mss_command.specs.declared.status.Status.{Status};
 
-use crate::gather::gather;
 use crate::reading::{Contents, fetch};
 use crate::reply::{Reply, Stop};
-use crate::tables::{Judged, tables_reply};
+use crate::tables::{Judged, judge_tables};
 use mss_desk::Desk;
 use mss_enclose::Kernel;
 use mss_model::{NoMemory, Tables};
@@ -65,13 +64,32 @@ pub fn ask<D: Desk, K: Kernel, Q: Question>(
         (AskLacks (Q.name question.now) (Q.limit question.now)) (may_end_asking (Q.may_answer question.now))
         (D.seen desk.old) (D.seen desk.new) result }
 {
-    let gathering = gather(alloc, desk)?;
-    let tables = match tables_reply(alloc, &gathering)? {
-        Judged::Tables(tables) => tables,
-        Judged::Refused(reply) => return Ok(reply),
-    };
+    let judged = judge_tables(alloc, desk)?;
+    match judged {
+        Judged::Tables(tables) => {
+            let reply = answer_under(alloc, question, desk, kernel, &tables);
+            // (as a call, so that the proof of this body doesn't take the tables apart)
+            drop(tables);
+            reply
+        }
+        Judged::Refused(reply) => Ok(reply),
+    }
+}
+
+/// Reads the file of the question, and replies with its answer under these tables.
+fn answer_under<D: Desk, K: Kernel, Q: Question>(
+    alloc: Global,
+    question: &Q,
+    desk: &mut D,
+    kernel: &K,
+    tables: &Tables,
+) -> Result<Reply, Stop>
+    ensures { Prepares (AsksUnder (Q.Answers question.now) (parts_of tables.now) (Q.name question.now) (Q.limit question.now))
+        (WantedLacks (Q.name question.now) (Q.limit question.now)) (Q.may_answer question.now)
+        (D.seen desk.old) (D.seen desk.new) result }
+{
     let contents = fetch_wanted(alloc, desk, question.file(), question.most_bytes())?;
-    Ok(question.answer(alloc, kernel, &tables, &contents)?)
+    Ok(question.answer(alloc, kernel, tables, &contents)?)
 }
 
 /// Reads the file that is wanted; no bytes where none is.
@@ -86,7 +104,7 @@ fn fetch_wanted<D: Desk>(
     ensures content { (D.seen desk.new).told ≡ (D.seen desk.old).told }
     ensures write_faults { (D.seen desk.new).write_faults ≡ (D.seen desk.old).write_faults }
     ensures later { (D.seen desk.old).read_faults ≤ (D.seen desk.new).read_faults }
-    ensures cause { result ≡ Err Stop.Read → Rose (D.seen desk.old).read_faults (D.seen desk.new).read_faults ⊎ IsUnwanted (option_map (λ text. text.now) name.entry) limit (D.seen desk.old).told }
+    ensures cause { result ≡ Err Stop.Read → Rose (D.seen desk.old).read_faults (D.seen desk.new).read_faults ⊎ IsLacking (WantedLacks (option_map (λ text. text.now) name.entry) limit) (D.seen desk.old).told }
 {
     match name {
         Some(name) => fetch(alloc, desk, name, limit),
