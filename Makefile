@@ -3,6 +3,9 @@
 
 PROGRAMS := mss mss_improve
 
+# How many crates are proved side by side: some of them wait for others, so this is more than there are processors.
+JOBS ?= $(shell expr 2 + `nproc`)
+
 # What `make install` installs, and where: the programs and the scripts below PREFIX.
 PREFIX ?= $(HOME)/.local
 MSS ?= bin/mss
@@ -11,13 +14,13 @@ LIBRARY = $(DESTDIR)$(PREFIX)/lib/mss
 BIN = $(DESTDIR)$(PREFIX)/bin
 SCRIPTS := tables beds explain warn picture fix_all_but
 
-# Proves and builds all crates, and leaves the programs in bin/. `rt run` also runs each once, without words, so its own
-# end doesn't matter here.
+# Proves the crates below the programs side by side, builds the programs, and leaves them in bin/. `rt run` also runs each
+# once, without words, so its own end doesn't matter here.
 build:
 	@mkdir -p bin
 	@for program in $(PROGRAMS); do \
 		made=crates/$$program/out/$$program; rm -f $$made; mkdir -p crates/$$program/out; \
-		(cd crates/$$program && rt run > out/build.log 2>&1) || true; \
+		(cd crates/$$program && rt all check --jobs $(JOBS) && rt run) > crates/$$program/out/build.log 2>&1 || true; \
 		test -x $$made || { cat crates/$$program/out/build.log; echo "$$program was not built"; exit 1; }; \
 		cp $$made bin/$$program; \
 	done
