@@ -1,6 +1,6 @@
 //! The commands, by the words after the program's name.
-ghost use Rattle.std.specs.Prelude.{◌≡◌};
-ghost use Rattle.mss_app.specs.Requests.{generate_request, request_in};
+ghost use Rattle.std.specs.Prelude.{◌≡◌, [], ◌∷◌};
+ghost use Rattle.mss_app.specs.Requests.{generate_request, request, request_in};
 
 use mss_alike::RuleSet;
 use mss_evaluate::Form;
@@ -27,22 +27,36 @@ pub(crate) fn request_of(words: &[String]) -> Option<Request>
     ensures { result ≡ request_in words.now }
 {
     match words {
-        [word] if word.as_str() == "block" => Some(Request::Block),
-        [word] if word.as_str() == "evaluate" => Some(Request::Evaluate(Form::Plain)),
-        [word] if word.as_str() == "plan" => Some(Request::Plan(RuleSet::Legal)),
-        [word] if word.as_str() == "check" => Some(Request::Check(RuleSet::Legal)),
-        [word, form] if word.as_str() == "evaluate" && form.as_str() == "json" => {
-            Some(Request::Evaluate(Form::Json))
-        }
-        [word, form] if word.as_str() == "plan" && form.as_str() == "alike" => {
-            Some(Request::Plan(RuleSet::Canonical))
-        }
-        [word, form] if word.as_str() == "check" && form.as_str() == "alike" => {
-            Some(Request::Check(RuleSet::Canonical))
-        }
+        [word] => one_word(word.as_str()),
+        [word, form] => two_words(word.as_str(), form.as_str()),
         [word, number, size] if word.as_str() == "generate" => {
             generate_request(generate_of(number.as_str(), size.as_str()))
         }
+        _ => None,
+    }
+}
+
+/// The request of one word, if it is one.
+fn one_word(word: &str) -> Option<Request>
+    ensures { result ≡ request (word.now ∷ []) }
+{
+    match word {
+        "block" => Some(Request::Block),
+        "evaluate" => Some(Request::Evaluate(Form::Plain)),
+        "plan" => Some(Request::Plan(RuleSet::Legal)),
+        "check" => Some(Request::Check(RuleSet::Legal)),
+        _ => None,
+    }
+}
+
+/// The request of a word and its form, if they make one.
+fn two_words(word: &str, form: &str) -> Option<Request>
+    ensures { result ≡ request (word.now ∷ form.now ∷ []) }
+{
+    match (word, form) {
+        ("evaluate", "json") => Some(Request::Evaluate(Form::Json)),
+        ("plan", "alike") => Some(Request::Plan(RuleSet::Canonical)),
+        ("check", "alike") => Some(Request::Check(RuleSet::Canonical)),
         _ => None,
     }
 }
