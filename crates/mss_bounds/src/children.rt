@@ -19,12 +19,12 @@ use crate::carried::Carried;
 use crate::floored::Floored;
 use crate::idle_child::{IdleChild, MOST_PLACES};
 use crate::lists::go_on;
-use crate::prefix_bound::Bound;
 use crate::ward_days::WardDay;
 use mss_census::{Census, lies_on};
 use mss_enclose::{Count, Enclosure, Kernel};
 use mss_floor::{forced, forced_counts};
 use mss_model::{MOST_OPTIONS, Tables};
+use mss_pctl::FirstLargest;
 
 /// What is known of the child whose last slot is idle: it has the lists of its parent.
 pub(crate) fn idle_over<E: Enclosure, K: Kernel>(
@@ -75,7 +75,7 @@ pub(crate) fn child_over<E: Enclosure, K: Kernel>(
     idle: &IdleChild,
     floored: &mut Floored<E>,
     count: &mut Count,
-) -> Bound
+) -> FirstLargest
     requires tables { census.old.lists ≡ lists_of (parts_of tables.now) }
     requires spots { places_of spots.now ≡ peak_places (parts_of tables.now) }
     requires held { IsHeld E.joined (lists_of (parts_of tables.now)) (places_of spots.now) parent.now }
@@ -91,7 +91,7 @@ pub(crate) fn child_over<E: Enclosure, K: Kernel>(
     ensures floors { floored.new ≡ floored.old }
 {
     let blocks = sibling_counts(tables, child, &idle.blocks);
-    let mut bound = Bound::none();
+    let mut bound = FirstLargest::none();
     for (place, spot) in spots.iter().enumerate() {
         let low = child_low(
             kernel,

@@ -1,10 +1,9 @@
 -- `block`, `evaluate` and `evaluate json` come to one outcome over the same files.
-use Rattle.std.proofs.Common.{◌≡◌, ℕ, ◌<◌, ◌++◌, List, [], ◌∷◌, inl, inr, sym, ap, subst, ◌∙◌, arith}
-use Rattle.std.specs.List.{All}
-use Rattle.std.proofs.lemmas.List.Elements.{All-head, All-tail}
+use Rattle.std.proofs.Common.{◌≡◌, ℕ, List, inl, inr, sym, ap, ◌∙◌}
 use Rattle.mss_model.specs.declared.parts.TableParts.{TableParts}
-use Rattle.mss_pctl.specs.CensusPeak.{IsCyclePeak, beds_high}
-use Rattle.mss_pctl.specs.Peaks.{IsFirstLargest, Place, peak_places}
+use Rattle.mss_pctl.specs.CensusPeak.{IsCyclePeak}
+use Rattle.mss_pctl.specs.PlacesPeak.{highest}
+use Rattle.mss_pctl.specs.declared.first_largest.FirstLargest.{FirstLargest}
 use Rattle.mss_pctl.specs.declared.peak.Peak.{Peak}
 use Rattle.mss_tables.specs.BlockFile.{block_at}
 use Rattle.mss_report.specs.BlockText.{block_text_of}
@@ -23,37 +22,16 @@ use Rattle.mss_evaluate.specs.Evaluate.{CycleDefines, EvaluatesCycle}
 
 -- ---- the peak is one
 
-same_head : (x y : Place) (xs ys : List Place) → x ∷ xs ≡ y ∷ ys → (x ≡ y) × (xs ≡ ys)
-same_head x y xs ys e = (let head : x ≡ y = cc in head, let tail : xs ≡ ys = cc in tail)
-
-first_place : (value : Place → ℕ) (n : ℕ) (before later after others : List Place) (p q : Place) → before ++ p ∷ after ≡ later ++ q ∷ others
-    → value p ≡ n → value q ≡ n → All (λ x. value x < n) before → All (λ x. value x < n) later → p ≡ q
-first_place value n [] [] after others p q e vp vq low lower = (same_head p q after others e).0
-first_place value n [] (y ∷ later) after others p q e vp vq low lower =
-    let same : p ≡ y = (same_head p y after (later ++ q ∷ others) e).0 in
-    absurd (omega (arith, All-head (λ x. value x < n) y later lower, ap value same, vp))
-first_place value n (x ∷ before) [] after others p q e vp vq low lower =
-    let same : x ≡ q = (same_head x q (before ++ p ∷ after) others e).0 in
-    absurd (omega (arith, All-head (λ x. value x < n) x before low, ap value same, vq))
-first_place value n (x ∷ before) (y ∷ later) after others p q e vp vq low lower =
-    first_place value n before later after others p q (same_head x y (before ++ p ∷ after) (later ++ q ∷ others) e).1 vp vq
-    (All-tail (λ x. value x < n) x before low) (All-tail (λ x. value x < n) y later lower)
-
-same_place : (value : Place → ℕ) (places : List Place) (n : ℕ) (p q : Place) → IsFirstLargest value places n p → IsFirstLargest value places n q → p ≡ q
-same_place value places n p q a b = first_place value n a.before b.before a.after b.after p q (sym a.split ∙ b.split) a.there b.there a.first b.first
-
 abbrev peak_with : ℕ → ℕ → ℕ → ℕ → Peak
 peak_with low high ward day = record { low = low; high = high; ward = ward; day = day }
 
 pub same_peak : (tables : TableParts) (cycle : List ℕ) (p q : Peak) → IsCyclePeak tables cycle p → IsCyclePeak tables cycle q → p ≡ q
 same_peak tables cycle p q a b =
     let low : p.low ≡ q.low = a.low ∙ sym b.low in
-    let high : p.high ≡ q.high = a.high ∙ sym b.high in
-    let place : record { ward = p.ward; day = p.day } ≡ record { ward = q.ward; day = q.day } =
-    same_place (beds_high tables cycle) (peak_places tables) q.high (record { ward = p.ward; day = p.day }) (record { ward = q.ward; day = q.day })
-    (subst (λ n. IsFirstLargest (beds_high tables cycle) (peak_places tables) n (record { ward = p.ward; day = p.day })) high a.place) b.place in
-    let ward : p.ward ≡ q.ward = ap (λ (x : Place). x.ward) place in
-    let day : p.day ≡ q.day = ap (λ (x : Place). x.day) place in
+    let same : highest p ≡ highest q = a.high.is ∙ sym b.high.is in
+    let high : p.high ≡ q.high = ap (λ (l : FirstLargest). l.number) same in
+    let ward : p.ward ≡ q.ward = ap (λ (l : FirstLargest). l.ward) same in
+    let day : p.day ≡ q.day = ap (λ (l : FirstLargest). l.day) same in
     ap (λ n. peak_with n p.high p.ward p.day) low ∙ ap (λ n. peak_with q.low n p.ward p.day) high ∙ ap (λ n. peak_with q.low q.high n p.day) ward
     ∙ ap (peak_with q.low q.high q.ward) day
 

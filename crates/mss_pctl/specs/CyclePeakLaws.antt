@@ -7,9 +7,10 @@ use Rattle.mss_model.specs.Limits.{IsTables}
 use Rattle.mss_model.specs.TableWords.{allow_at, slot_count, ward_count}
 use Rattle.mss_enclose.specs.Kept.{masses_low, masses_high}
 use Rattle.mss_pctl.specs.declared.peak.Peak.{Peak}
-use Rattle.mss_pctl.specs.Peaks.{Place, day_places, ward_places, IsPeakSoFar, PeakEncloses}
+use Rattle.mss_pctl.specs.Peaks.{Place, day_places, ward_places, PeakEncloses}
+use Rattle.mss_pctl.specs.PlacesPeak.{IsPeak}
 use Rattle.mss_pctl.specs.CensusPeak.{kept_census, beds_low, beds_high, IsCyclePeak, IsPeakOver}
-use Rattle.mss_pctl.specs.PeakPlacesLaws.{next_group, peak_found}
+use Rattle.mss_pctl.specs.PeakPlacesLaws.{next_group}
 use Rattle.mss_pctl.specs.PeakSidesLaws.{peak_encloses}
 use Rattle.mss_pctl.specs.CensusStandsLaws.{census_stands}
 
@@ -17,7 +18,7 @@ use Rattle.mss_pctl.specs.CensusStandsLaws.{census_stands}
 pub day_counted : (t : TableParts) (options list : List ℕ) (ward day : ℕ) (before after : Peak) (places : List Place) → 1 ≤ day → list ≡ kept_census t options ward day
     → ((lows highs : Place → ℕ) (ps : List Place) → allow_at t ward + masses_low list t.level ≡ lows (record { ward = ward; day = day })
     → allow_at t ward + masses_high list t.level ≡ highs (record { ward = ward; day = day })
-    → IsPeakSoFar lows highs ps before → IsPeakSoFar lows highs (ps ++ day_places t ward day) after)
+    → IsPeak lows highs ps before → IsPeak lows highs (ps ++ day_places t ward day) after)
     → IsPeakOver t options (places ++ flat_map (day_places t ward) (range_with_len 1 (day - 1))) before
     → IsPeakOver t options (places ++ flat_map (day_places t ward) (range_with_len 1 (day + 1 - 1))) after
 day_counted t options list ward day before after places first e counts so_far =
@@ -35,10 +36,9 @@ pub ward_counted : (t : TableParts) (options : List ℕ) (ward : ℕ) (p : Peak)
 ward_counted t options ward p first so_far = subst (λ z. IsPeakOver t options z p) (sym (next_group (ward_places t) ward first)) so_far
 
 -- all wards are counted
-pub all_counted : (t : TableParts) (options : List ℕ) (wards : ℕ) (p : Peak) → IsTables t → wards ≡ ward_count t
+pub all_counted : (t : TableParts) (options : List ℕ) (wards : ℕ) (p : Peak) → wards ≡ ward_count t
     → IsPeakOver t options (flat_map (ward_places t) (range_with_len 1 wards)) p → IsCyclePeak t options p
-all_counted t options wards p good all so_far =
-    peak_found t (beds_low t options) (beds_high t options) p good (subst (λ z. IsPeakOver t options (flat_map (ward_places t) (range_with_len 1 z)) p) all so_far)
+all_counted t options wards p all so_far = subst (λ z. IsPeakOver t options (flat_map (ward_places t) (range_with_len 1 z)) p) all so_far
 
 -- the peak of a cycle encloses the exact one
 pub cycle_enclosed : (t : TableParts) (options : List ℕ) (p : Peak) → IsTables t → length options ≤ slot_count t → IsCyclePeak t options p

@@ -5,7 +5,7 @@ use Rattle.mss_cert.specs.declared.certificate.Line.{Line}
 use Rattle.mss_cert.specs.declared.certificate.Line.TheVariants.{Branch, Dead, Full, Closed, OpenAt}
 use Rattle.mss_cert.specs.declared.certificate.End.TheVariants.{NoneLegal}
 use Rattle.mss_cert.specs.declared.certificate.Certificate.{Certificate}
-use Rattle.mss_bounds.specs.declared.prefix_bound.Bound.{Bound}
+use Rattle.mss_pctl.specs.declared.first_largest.FirstLargest.{FirstLargest}
 use Rattle.mss_check.specs.Tree.{Task, Reads, under, number_of, least_number, end_of}
 use Rattle.mss_check.specs.Validity.{IsValidFor}
 use Rattle.mss_check.specs.AgreementLaws.{valid_read}
@@ -32,7 +32,7 @@ no_number upper b bound q (Full turn m w d) n h k shut none e = none q turn m w 
 no_number upper b bound q (Closed turn m w d) n h k shut none e = let y = k.1 in none y.0 y.1 y.2 y.3 y.4 y.5
 no_number upper b bound q (OpenAt m w d) n h k shut none e = shut q m w d h
 
-module _ (t : Task) (tables : TableParts) (bound : List ℕ → Bound) (upper : List ℕ → ℕ) (budget turns : ℕ) (c : Certificate)
+module _ (t : Task) (tables : TableParts) (bound : List ℕ → FirstLargest) (upper : List ℕ → ℕ) (budget turns : ℕ) (c : Certificate)
     (valid : IsValidFor t tables c) (frugal : IsFrugal t bound upper budget c.tree turns) (shut : HasOpen t c.tree → ⊥) (none : HasNoFull (board_of t c.tree)) where
   end_is : (least : Option ℕ) → least_number c.tree ≡ least → c.end ≡ NoneLegal
   end_is None e = valid.last ∙ ap end_of e

@@ -1,6 +1,6 @@
 -- What the commands `plan` and `plan alike` come to, and what they promise. A rule that makes a prefix dead tells them apart;
 -- what is promised of peaks speaks of every legal cycle.
-use Rattle.std.specs.Prelude.{◌≡◌, ◌⊎◌, ◌↔◌, ℕ, ◌+◌, ◌*◌, ◌^◌, ◌≤◌, Bool, true, false, IsTrue, List, [], ◌∷◌, ◌++◌, length, Option, Some, None, codes}
+use Rattle.std.specs.Prelude.{◌≡◌, ◌⊎◌, ◌↔◌, ℕ, ◌+◌, ◌^◌, ◌≤◌, Bool, true, false, IsTrue, List, [], ◌∷◌, ◌++◌, length, Option, Some, None, codes}
 use Rattle.mss_model.specs.Legality.{IsLegal}
 use Rattle.mss_model.specs.Peak.{peak_above}
 use Rattle.mss_model.specs.declared.parts.TableParts.{TableParts}

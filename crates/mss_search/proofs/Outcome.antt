@@ -10,7 +10,7 @@ use Rattle.mss_model.specs.Peak.{peak_at, peak_below, peak_above}
 use Rattle.mss_cert.specs.declared.certificate.Line.{Line}
 use Rattle.mss_cert.specs.declared.certificate.Line.TheVariants.{Branch, Dead, Full, Closed, OpenAt}
 use Rattle.mss_cert.specs.declared.certificate.End.TheVariants.{Lower, NoneLegal}
-use Rattle.mss_bounds.specs.declared.prefix_bound.Bound.{Bound}
+use Rattle.mss_pctl.specs.declared.first_largest.FirstLargest.{FirstLargest}
 use Rattle.mss_floor.specs.FlooredLists.{floored_census}
 use Rattle.mss_bounds.specs.PrefixBound.{bound_of}
 use Rattle.mss_check.specs.Tree.{Task, Fits, under, Reads, number_of, lesser, least_number, end_of}
@@ -65,7 +65,7 @@ laid_short t (p ∷ ps) (x ∷ ss) k h s (inl e) = omega (arith, ap length (ap (
 laid_short t (p ∷ ps) (x ∷ ss) k h s (inr i) =
     laid_short t (under t p x.line ++ ps) ss (λ q o. elim (in_either q (under t p x.line) ps o) [ inl l ↦ under_short t p x.line h.1 q l | inr r ↦ k q (inr r) ]) h.2 s i
 
-number_bound : (l : Line) (b : Bound) (n : ℕ) → HasBound l b → number_of l ≡ Some n → n ≡ b.number
+number_bound : (l : Line) (b : FirstLargest) (n : ℕ) → HasBound l b → number_of l ≡ Some n → n ≡ b.number
 number_bound (Branch turn) b n h e = cc
 number_bound (Dead rule) b n h e = cc
 number_bound (Full turn m w d) b n h e = let f : m ≡ n = cc in sym f ∙ h.0

@@ -18,7 +18,7 @@ use Rattle.mss_pctl.specs.CensusPeak.{kept_census, beds_high}
 use Rattle.mss_pctl.specs.PeakSidesLaws.{over-le, largest-places}
 use Rattle.mss_pctl.specs.CensusStandsLaws.{census_stands}
 use Rattle.mss_bounds.specs.PrefixBound.{low_number, bound_of}
-use Rattle.mss_bounds.specs.OnePlaceLaws.{first-number}
+use Rattle.mss_pctl.specs.FirstLargestLaws.{first-number}
 use Rattle.mss_search.specs.Searching.{upper_of}
 
 -- the laws of a kind of list

@@ -11,10 +11,11 @@ ghost use Rattle.mss_cert.specs.declared.certificate.Line.TheVariants.{Dead, Ope
 ghost use Rattle.mss_search.specs.Kids.{fresh_line, kid_lines, HasKids};
 
 use crate::queue::{Queue, Waiting};
-use mss_bounds::{Bound, Bounder, IdleChild};
+use mss_bounds::{Bounder, IdleChild};
 use mss_cert::Line;
 use mss_enclose::{Enclosure, Kernel};
 use mss_model::{NoMemory, Tables};
+use mss_pctl::FirstLargest;
 use mss_rules::Rules;
 use std::alloc::Global;
 
@@ -71,7 +72,7 @@ fn dead_line(rule: u8) -> Line
 }
 
 /// The line of an open prefix with its bound.
-fn open_line(bound: Bound) -> Line
+fn open_line(bound: FirstLargest) -> Line
     ensures { result ≡ OpenAt bound.number bound.ward bound.day }
 {
     Line::OpenAt {

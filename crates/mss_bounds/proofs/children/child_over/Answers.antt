@@ -7,7 +7,7 @@ use Rattle.mss_census.specs.WardLists.{lists_of, census_list}
 use Rattle.mss_floor.specs.FlooredLists.{floored_census}
 use Rattle.mss_pctl.specs.Peaks.{Place}
 use Rattle.mss_bounds.specs.Children.{idle_sibling}
-use Rattle.mss_bounds.specs.FirstLargest.{IsBoundSoFar}
+use Rattle.mss_pctl.specs.FirstLargest.{IsFirstLargest}
 use Rattle.mss_bounds.specs.PrefixBound.{low_number}
 use Rattle.mss_bounds.specs.Spots.{place_of, places_of}
 use Rattle.mss_bounds.proofs.FilledLists.{count-more}
@@ -74,7 +74,7 @@ loop-place-preserved g c =
     let value : Place → ℕ = low_number (floored_census E.joined) E.low_of t c.args.child.now in
     let i : ℕ = c.loop-place.place in
     record {
-      bound = subst (λ ps. IsBoundSoFar value ps c.with-bound.result) (sym (places-more c.args.spots.now i (omega arith)))
+      bound = subst (λ ps. IsFirstLargest value ps c.with-bound.result) (sym (places-more c.args.spots.now i (omega arith)))
           (c.with-bound.ensures value (take i (places_of c.args.spots.now)) c.child_low-low.ensures.value c.loop-place.invariant.bound);
       lists = c.child_low-low.ensures.lists ∙ c.loop-place.invariant.lists;
       floors = c.child_low-low.ensures.floors ∙ c.loop-place.invariant.floors;

@@ -1,4 +1,4 @@
-use Rattle.std.proofs.Common.{◌<◌, length, arith, rules, refl, ap, sym, ◌∙◌}
+use Rattle.std.proofs.Common.{◌<◌, length, rules, ap, sym, ◌∙◌}
 use Rattle.mss_model.specs.PartsOf.{parts_of}
 use Rattle.mss_floor.specs.ForcedBlocks.{forced}
 use Rattle.mss_bounds.proofs.Siblings.{forced-of-child}

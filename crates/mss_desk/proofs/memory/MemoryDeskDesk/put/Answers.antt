@@ -1,4 +1,4 @@
-use Rattle.std.proofs.Common.{◌≡◌, ap, ◌∙◌}
+use Rattle.std.proofs.Common.{ap, ◌∙◌}
 use Rattle.std.specs.FinMap as map
 use Rattle.mss_desk.proofs.Others.{same_but_set}
 use Rattle.mss_desk.proofs.memory.MemoryDeskDesk.put.Goals as goal

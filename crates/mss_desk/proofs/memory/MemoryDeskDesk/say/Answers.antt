@@ -1,4 +1,4 @@
-use Rattle.std.proofs.Common.{◌≡◌, ◌++◌, ◌/◌, length, take, ap, ◌∙◌}
+use Rattle.std.proofs.Common.{◌++◌, ◌/◌, length, take, ap, ◌∙◌}
 use Rattle.mss_desk.proofs.memory.MemoryDeskDesk.say.Goals as goal
 
 pub returns-in-Ok-clause-content : goal.returns-in-Ok-clause-content

@@ -1,4 +1,4 @@
-use Rattle.std.proofs.Common.{◌≡◌, Some, ap, sym, ◌∙◌, option_map}
+use Rattle.std.proofs.Common.{Some, ap, sym, ◌∙◌, option_map}
 use Rattle.std.specs.FinMap as map
 use Rattle.mss_desk.proofs.Shelved.{get_shelved}
 use Rattle.mss_desk.proofs.shelf.Shelf.get.Goals as goal
