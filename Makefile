@@ -1,7 +1,8 @@
 # The program is proved while it is built, so a first build takes long (README.md, "Use").
 .PHONY: build example test bench install uninstall clean
 
-PROGRAMS := mss mss_improve
+# mss_improve comes first: its crates are many that don't wait for each other, and what is left of mss is one long chain.
+PROGRAMS := mss_improve mss
 
 # How many crates are proved side by side: some of them wait for others, so this is more than there are processors.
 JOBS ?= $(shell expr 2 + `nproc`)
